@@ -1,0 +1,13 @@
+pub mod Design
+pub mod Time
+pub mod Circuit
+pub mod Bench
+pub mod Run
+pub mod Path
+pub mod Value
+pub mod Offence
+pub mod WellFormed
+pub mod Numbering
+pub mod Ready
+pub mod Filling
+pub mod Signed
