@@ -1,0 +1,164 @@
+//! Texts with known tokens and faults.
+//!
+//! `lex` is proved to answer the one reading or the first fault that the definitions give. These tables say that the definitions mean what
+//! the format says. The wanted answers are written by hand.
+
+use crate::{
+    LexWhy, List, NoMemory, Token, TokenKind, every_text_divides, is_blank, is_plain_name, lex,
+    tokens_are_words, written_words_are_read,
+};
+use std::alloc::{AllocError, Global};
+
+/// The tokens, each with a blank behind it: a reserved word as `@input`, an escaped name as `\a+b`, a number as `#12`, others as they stand.
+fn listed(alloc: Global, text: &[u8], tokens: &[Token]) -> Result<Vec<u8>, AllocError> {
+    let mut list = Vec::new(alloc);
+    for token in tokens {
+        match token.kind {
+            TokenKind::Reserved => list.push(b'@')?,
+            TokenKind::Escaped => list.push(b'\\')?,
+            TokenKind::Number => list.push(b'#')?,
+            TokenKind::Name | TokenKind::Mark => {}
+        }
+        if token.start <= token.end {
+            if let Some(bytes) = text.get(token.start as usize..token.end as usize) {
+                list.extend_from_slice(bytes)?;
+            }
+        }
+        list.push(b' ')?;
+    }
+    Ok(list)
+}
+
+/// A netlist as a synthesis tool writes it.
+const NETLIST: &str = "/* made by a synthesis tool */
+`timescale 1ps/1fs
+(* top = 1 *)
+module top(clk, a, y);
+  input clk;
+  wire clk;
+  input [1:0] a;
+  wire [1:0] a;
+  output [1:0] y;
+  wire [1:0] y;
+  (* src = \"top.v:7.3-7.30\" *)
+  pass \\p$0 (.c(clk), .i(a), .o(y));
+endmodule
+module pass(input c, input [1:0] i, output [1:0] o);
+  wire \\t.1 , t0;
+  assign o = {\\t.1 , t0};
+  SPL cs(.a(c), .q0(c0), .q1(c1));
+  DFF \\d[0] (.a(i[0]), .clk(c0), .q(m)), \\d[1] (i[1], c1, \\t.1 );
+  SPL x(.a(m), .q0(t0), .q1());
+endmodule
+";
+
+const NETLIST_TOKENS: &str = "@module top ( clk , a , y ) ; \
+@input clk ; @wire clk ; @input [ #1 : #0 ] a ; @wire [ #1 : #0 ] a ; @output [ #1 : #0 ] y ; @wire [ #1 : #0 ] y ; \
+pass \\p$0 ( . c ( clk ) , . i ( a ) , . o ( y ) ) ; @endmodule \
+@module pass ( @input c , @input [ #1 : #0 ] i , @output [ #1 : #0 ] o ) ; \
+@wire \\t.1 , t0 ; @assign o = { \\t.1 , t0 } ; \
+SPL cs ( . a ( c ) , . q0 ( c0 ) , . q1 ( c1 ) ) ; \
+DFF \\d[0] ( . a ( i [ #0 ] ) , . clk ( c0 ) , . q ( m ) ) , \\d[1] ( i [ #1 ] , c1 , \\t.1 ) ; \
+SPL x ( . a ( m ) , . q0 ( t0 ) , . q1 ( ) ) ; @endmodule ";
+
+#[test]
+fn reads_tokens(rt: HostRuntime) {
+    every_text_divides();
+    written_words_are_read();
+    for (text, wanted) in [
+        (NETLIST, NETLIST_TOKENS),
+        ("", ""),
+        (" \t\r\n\u{c}", ""),
+        ("()[]{},;:.=", "( ) [ ] { } , ; : . = "),
+        ("1a a1 _c a$b", "#1 a a1 _c a$b "),
+        ("0999999999 0000000000", "#0999999999 #0000000000 "),
+        ("module modules \\module", "@module modules \\module "),
+        ("\\a+b 1", "\\a+b #1 "),
+        ("\\a/*b\t\\(*", "\\a/*b \\(* "),
+        ("x/**/y//z", "x y "),
+        ("/***/a/*//*/b", "a b "),
+        ("a//b\rc\nd", "a d "),
+        ("(* a = \"\\\" *)\" *)x", "x "),
+        ("(**)x(*)*)y", "x y "),
+        ("(* \\*)x", "x "),
+        ("a `timescale 1ns/1ps /* x\nb", "a b "),
+        ("`celldefine\n`endcelldefine", ""),
+    ] {
+        let bytes = text.as_bytes();
+        assert!(rt; bytes.len() < 2_000);
+        match lex(rt.alloc(), bytes) {
+            Ok(tokens) => {
+                tokens_are_words(bytes, tokens.as_slice());
+                match listed(rt.alloc(), bytes, tokens.as_slice()) {
+                    Ok(list) => assert_eq!(rt; list.as_slice(), wanted.as_bytes(), "at {text}"),
+                    Err(_) => assert!(rt; false, "no memory"),
+                }
+            }
+            Err(_) => assert!(rt; false, "at {text}"),
+        }
+    }
+}
+
+#[test]
+fn finds_faults(rt: HostRuntime) {
+    for (text, offset, why) in [
+        ("/*", 0, LexWhy::UnendedComment),
+        ("(* a", 0, LexWhy::UnendedAttribute),
+        ("\\\n", 0, LexWhy::EmptyEscape),
+        ("`include", 0, LexWhy::Directive),
+        ("9999999999", 0, LexWhy::BigNumber),
+        ("assign y = 1'b0;", 12, LexWhy::BadByte),
+        (" /*/", 1, LexWhy::UnendedComment),
+        (" (*)", 1, LexWhy::UnendedAttribute),
+        ("(* \" *)", 0, LexWhy::UnendedAttribute),
+        ("(* \"\\\" *)", 0, LexWhy::UnendedAttribute),
+        ("a ` b", 2, LexWhy::BadByte),
+        ("a`", 1, LexWhy::BadByte),
+        ("`timescale1 b", 0, LexWhy::Directive),
+        ("`timescale$ b", 0, LexWhy::Directive),
+        ("x//\n`define", 4, LexWhy::Directive),
+        ("a\\ b", 1, LexWhy::EmptyEscape),
+        ("a\\", 1, LexWhy::EmptyEscape),
+        ("\\\u{1}", 0, LexWhy::EmptyEscape),
+        ("\\ab\u{1}", 3, LexWhy::BadByte),
+        ("x 01000000000", 2, LexWhy::BigNumber),
+        ("a / b", 2, LexWhy::BadByte),
+        ("a /", 2, LexWhy::BadByte),
+        ("$a", 0, LexWhy::BadByte),
+        ("\u{b}", 0, LexWhy::BadByte),
+        ("# /*", 0, LexWhy::BadByte),
+        ("/* #", 0, LexWhy::UnendedComment),
+    ] {
+        let bytes = text.as_bytes();
+        assert!(rt; bytes.len() < 2_000);
+        match lex(rt.alloc(), bytes) {
+            Ok(_) => assert!(rt; false, "at {text}"),
+            Err(fault) => {
+                assert_eq!(rt; fault.offset, offset, "at {text}");
+                assert_eq!(rt; fault.why, why, "at {text}");
+            }
+        }
+    }
+}
+
+#[test]
+fn tells_plain_names_and_keeps_lists(rt: HostRuntime) {
+    for (name, wanted) in [
+        ("a", true),
+        ("_1$", true),
+        ("modules", true),
+        ("", false),
+        ("module", false),
+        ("1a", false),
+        ("$a", false),
+        ("a b", false),
+    ] {
+        assert_eq!(rt; is_plain_name(name.as_bytes()), wanted, "at {name}");
+    }
+    assert!(rt; is_blank(12));
+    assert!(rt; !is_blank(11));
+    let mut list: List<u32> = List::of(Vec::new(rt.alloc()));
+    assert_eq!(rt; list.push(7), Ok::<(), NoMemory>(()));
+    assert_eq!(rt; list.get(0), Some(&7));
+    assert!(rt; list.get(1).is_none());
+}
