@@ -1,4 +1,4 @@
--- What a step of the lexer answers.
+-- What a step of the lexer answers, over what the scan finds: for the clauses of private functions.
 use Rattle.std.specs.Prelude.{◌≡◌, ◌⊎◌, ◌<◌, ◌≤◌, ℕ, ◌+◌, List, ◌++◌, length, drop}
 use Rattle.verilog_lex.specs.Lexemes.{Lexeme}
 use Rattle.verilog_lex.specs.Reads.{token_at}

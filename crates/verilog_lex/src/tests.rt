@@ -4,8 +4,8 @@
 //! the format says. The wanted answers are written by hand.
 
 use crate::{
-    LexWhy, List, NoMemory, Token, TokenKind, every_text_divides, is_blank, is_plain_name, lex,
-    tokens_are_words, written_words_are_read,
+    LexWhy, List, NoMemory, Token, TokenKind, blanks_between_are_all, every_text_divides, is_blank,
+    is_plain_name, lex, tokens_are_words, written_words_are_read,
 };
 use std::alloc::{AllocError, Global};
 
@@ -89,6 +89,7 @@ fn reads_tokens(rt: HostRuntime) {
         match lex(rt.alloc(), bytes) {
             Ok(tokens) => {
                 tokens_are_words(bytes, tokens.as_slice());
+                blanks_between_are_all(bytes, tokens.as_slice());
                 match listed(rt.alloc(), bytes, tokens.as_slice()) {
                     Ok(list) => assert_eq!(rt; list.as_slice(), wanted.as_bytes(), "at {text}"),
                     Err(_) => assert!(rt; false, "no memory"),
