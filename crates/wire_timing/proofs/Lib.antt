@@ -1,0 +1,13 @@
+pub mod Lists
+pub mod Chunks
+pub mod Shape
+pub mod Routes
+pub mod Periods
+pub mod Delays
+pub mod Outputs
+pub mod Casts
+pub mod Walk
+pub mod Trace
+pub mod Raise
+pub mod Shown
+pub mod Ports
