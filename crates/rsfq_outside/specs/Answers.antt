@@ -14,11 +14,6 @@ pub record ExactlyWhere (fact : Type 0) (answer status : Status) : Type 0 where
   pub only : status ≡ answer → fact
   pub comes : fact → status ≢ Memory → status ≢ Fault → status ≡ answer
 
--- a fault of the folder in this call: its count rose, and one of these calls is to blame
-pub record FolderFailed (before now : ℕ) (blamed : Option Call) (IsOwn : Call → Type 0) : Type 0 where
-  pub rose : Rose before now
-  pub blame : (call : Call) × (blamed ≡ Some call) × IsOwn call
-
 -- the word of a call's kind
 abbrev pub kind_word : CallKind → List ℕ
 kind_word Read = codes "read"
@@ -28,7 +23,7 @@ kind_word Write = codes "write"
 abbrev pub fault_line : Call → List ℕ
 fault_line call = codes "fault " ++ kind_word call.0 ++ codes " " ++ call.1 ++ codes "\n"
 
--- a fault of the folder in this call, as in `FolderFailed`, and the line that it makes due, which names the call to blame
+-- a fault of the folder in this call: its count rose, one of these calls is to blame, and the line that is due names it
 pub record FaultDue (before now : ℕ) (blamed : Option Call) (IsOwn : Call → Type 0) (line : List ℕ) : Type 0 where
   pub rose : Rose before now
   pub blame : (call : Call) × (blamed ≡ Some call) × IsOwn call × (line ≡ fault_line call)

@@ -3,7 +3,7 @@
 //!
 //! A top call first reads and decides, and makes each text that may be due. Only then it writes, and no write of its own
 //! needs memory. So want of memory never follows a part of an answer.
-ghost use Rattle.std.specs.Prelude.{◌≡◌, ◌≤◌, ◌<◌, ◌++◌, IfOk, IfErr, codes};
+ghost use Rattle.std.specs.Prelude.{◌≡◌, ◌≤◌, ◌<◌, ◌++◌, IfOk, IfErr, OnOk, codes};
 ghost use Rattle.rsfq_outside.specs.declared.answer.Stop.TheVariants.{Memory};
 ghost use Rattle.rsfq_outside.specs.declared.fault.CallKind.TheVariants.{Read};
 ghost use Rattle.rsfq_outside.specs.Answers.{Delivers, FaultDue, fault_line};
@@ -83,6 +83,7 @@ pub fn read_file<F: Folder>(
 
     // What stays, and what never falls.
     ensures told { F.told folder.new ≡ F.told folder.old }
+    ensures sound { OnOk result (F.faults folder.new ≡ F.faults folder.old) }
     ensures later { F.faults folder.old ≤ F.faults folder.new }
 {
     match folder.read_front(name, most + 1) {

@@ -30,6 +30,7 @@ pub trait Folder {
         ensures front { IfOk result (λ bytes. IsFront (told_content (told self.old) name.now) limit bytes.items) }
         ensures bound { IfOk result (λ bytes. vec_len bytes ≤ limit) }
         ensures told { told self.new ≡ told self.old }
+        ensures sound { ¬ IsErrOf result FolderFault.Failed → faults self.new ≡ faults self.old }
         ensures cause { HasBlame (faults self.old) (faults self.new) (blamed self.old) (blamed self.new) (Read, name.now) result };
 
     /// Makes these bytes the content of a file, whether or not it was there. No other file is changed.
@@ -43,5 +44,6 @@ pub trait Folder {
         ensures written { OnOk result (told self.new ≡ with_file (told self.old) name.now bytes.now) }
         ensures failed { IsErrOf result FolderFault.Failed → IsPartWritten (told self.old) name.now bytes.now (told self.new) }
         ensures memory { IsErrOf result FolderFault.Memory → (told self.new ≡ told self.old) × (faults self.new ≡ faults self.old) }
+        ensures sound { ¬ IsErrOf result FolderFault.Failed → faults self.new ≡ faults self.old }
         ensures cause { HasBlame (faults self.old) (faults self.new) (blamed self.old) (blamed self.new) (Write, name.now) result };
 }
