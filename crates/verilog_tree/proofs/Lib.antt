@@ -1,0 +1,13 @@
+pub mod Exact
+pub mod Phrases
+pub mod Whole
+pub mod Loop
+pub mod Shorter
+pub mod Views
+pub mod Prints
+pub mod Numbers
+pub mod Tokens
+pub mod Adds
+pub mod Good
+pub mod Back
+pub mod Braces

@@ -1,0 +1,11 @@
+pub mod Reading
+pub mod Words
+pub mod Trees
+pub mod Spelling
+pub mod Parsing
+pub mod Fault
+pub mod Giving
+pub mod Views
+pub mod Printing
+pub mod Text
+pub mod Onto
