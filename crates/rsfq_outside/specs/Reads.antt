@@ -29,3 +29,8 @@ IsReadStop told name most Memory = Unit {0}
 abbrev pub IfFaultStops : Stop → (List ℕ → Type 0) → Type 0
 IfFaultStops (Due reply) Says = reply.status ≡ Fault → Says reply.text.items
 IfFaultStops Memory Says = Unit {0}
+
+-- a fact where a refusal stops the run
+abbrev pub IfRefusalStops : Stop → Type 0 → Type 0
+IfRefusalStops (Due reply) Fact = reply.status ≡ Refused → Fact
+IfRefusalStops Memory Fact = Unit {0}

@@ -7,7 +7,7 @@ ghost use Rattle.std.specs.Prelude.{◌≡◌, ◌≤◌, ◌<◌, ◌++◌, IfO
 ghost use Rattle.rsfq_outside.specs.declared.answer.Stop.TheVariants.{Memory};
 ghost use Rattle.rsfq_outside.specs.declared.fault.CallKind.TheVariants.{Read};
 ghost use Rattle.rsfq_outside.specs.Answers.{Delivers, FaultDue, fault_line};
-ghost use Rattle.rsfq_outside.specs.Reads.{IsWholeFile, IsReadStop, IfFaultStops};
+ghost use Rattle.rsfq_outside.specs.Reads.{IsWholeFile, IsReadStop, IfFaultStops, IfRefusalStops};
 
 use crate::{CallKind, Folder, FolderFault, Sink, Status, WriteFault, write_all_to};
 use std::alloc::{AllocError, Global};
@@ -84,6 +84,7 @@ pub fn read_file<F: Folder>(
     // What stays, and what never falls.
     ensures told { F.told folder.new ≡ F.told folder.old }
     ensures sound { OnOk result (F.faults folder.new ≡ F.faults folder.old) }
+    ensures refusal_sound { IfErr result (λ stop. IfRefusalStops stop (F.faults folder.new ≡ F.faults folder.old)) }
     ensures later { F.faults folder.old ≤ F.faults folder.new }
 {
     match folder.read_front(name, most + 1) {

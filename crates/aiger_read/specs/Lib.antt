@@ -1,0 +1,5 @@
+pub mod Reading
+pub mod Header
+pub mod Symbols
+pub mod Graph
+pub mod Spelling

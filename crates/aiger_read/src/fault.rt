@@ -1,0 +1,97 @@
+//! Why a file is no graph.
+
+ghost use Rattle.std.specs.Prelude.{◌≡◌};
+ghost use Rattle.aiger_read.specs.declared.fault.ReadStop.TheVariants.{Memory};
+
+use rsfq_ids::list::{List, NoMemory};
+use std::alloc::{AllocError, AllocFailed};
+use thiserror::Error;
+
+/// The causes. At one place the first in this order counts.
+#[derive(Debug, Drop, Error)]
+pub enum AigerWhy {
+    /// The first line is no head of such a file.
+    #[error("header")]
+    Header,
+    /// The file has latches.
+    #[error("latches")]
+    Latches,
+    /// The file has more than inputs, outputs and ANDs.
+    #[error("extended")]
+    Extended,
+    /// A number is wanted: digits, or groups of seven bits, of a value below 2^32.
+    #[error("number")]
+    Number,
+    /// A literal that the file has not.
+    #[error("range {0}")]
+    Range(u32),
+    /// A literal that was defined before.
+    #[error("defined {0}")]
+    Defined(u32),
+    /// A literal that nothing defines.
+    #[error("undefined {0}")]
+    Undefined(u32),
+    /// ANDs that use each other in a ring.
+    #[error("cycle")]
+    Cycle(List<u32>),
+    /// A difference of an AND's literals that leads below 0, or a first one of 0.
+    #[error("order")]
+    Order,
+    /// The file ends before a needed line or difference.
+    #[error("truncated")]
+    Truncated,
+    /// A line behind the ANDs that is no symbol.
+    #[error("symbol")]
+    Symbol,
+    /// The number of variables, which is above 1,000,000.
+    #[error("limit {0}")]
+    Limit(u32),
+    /// Memory could not be had.
+    #[error("out of memory")]
+    Memory,
+}
+
+/// Why a file is refused, and the place that counts for it, in bytes from 0.
+#[derive(Debug, Drop)]
+pub struct AigerFault {
+    pub offset: u32,
+    pub why: AigerWhy,
+}
+
+/// The same while reading, by the number of bytes that are left at the place.
+#[derive(Debug, Drop)]
+pub(crate) struct Stop {
+    pub(crate) left: usize,
+    pub(crate) why: AigerWhy,
+}
+
+/// Why a reader stops.
+#[derive(Debug, Drop)]
+pub(crate) enum ReadStop {
+    Memory,
+    At(Stop),
+}
+
+impl From<NoMemory> for ReadStop {
+    ghost from_gives = { λ _ e. e ≡ Memory };
+
+    fn from(_: NoMemory) -> ReadStop {
+        ReadStop::Memory
+    }
+}
+
+impl From<AllocError> for ReadStop {
+    ghost from_gives = { λ _ e. e ≡ Memory };
+
+    fn from(_: AllocError) -> ReadStop {
+        ReadStop::Memory
+    }
+}
+
+impl<T: Drop> From<AllocFailed<T>> for ReadStop {
+    ghost from_gives = { λ _ e. e ≡ Memory };
+
+    fn from(_: AllocFailed<T>) -> ReadStop {
+        ReadStop::Memory
+    }
+}

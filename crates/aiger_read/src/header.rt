@@ -1,0 +1,127 @@
+//! The first line of a binary file: `aig M I L O A`, and at most four further numbers.
+
+ghost use Rattle.std.specs.Prelude.{◌≡◌, ◌≤◌, ◌+◌, length, IfOk};
+ghost use Rattle.aiger_read.specs.Reading.{Gives};
+ghost use Rattle.aiger_read.specs.Header.{spaces_in, has_head, zeros_at, variables_at, latches_at, counts_at, header_at};
+
+use crate::fault::{AigerWhy, ReadStop, Stop};
+use crate::fields::take_field;
+
+/// How many inputs, outputs and ANDs a file has.
+#[derive(Clone, Copy, Debug, PartialEq, Eq, Drop)]
+pub(crate) struct Header {
+    pub(crate) inputs: u32,
+    pub(crate) outputs: u32,
+    pub(crate) ands: u32,
+}
+
+/// How many spaces the first line has.
+fn count_spaces(bytes: &[u8]) -> usize
+    ensures { result ≡ spaces_in bytes.now }
+{
+    let mut count = 0;
+    for byte in bytes {
+        if *byte == b'\n' {
+            return count;
+        }
+        if *byte == b' ' {
+            count += 1;
+        }
+    }
+    count
+}
+
+/// Whether the first line begins with the word and has five to nine fields behind it.
+fn begins_file(bytes: &[u8]) -> bool
+    ensures { result ≡ has_head bytes.now }
+{
+    let spaces = count_spaces(bytes);
+    bytes.starts_with(b"aig ") && 5 <= spaces && spaces <= 9
+}
+
+/// So many fields that are 0.
+fn take_zeros(count: usize, bytes: &[u8]) -> Result<&[u8], ReadStop>
+    ensures { Gives (λ x. x.now) result (zeros_at count bytes.now) }
+{
+    if count == 0 {
+        return Ok(bytes);
+    }
+    let (value, rest) = take_field(bytes)?;
+    if value != 0 {
+        return Err(ReadStop::At(Stop {
+            left: bytes.len(),
+            why: AigerWhy::Extended,
+        }));
+    }
+    take_zeros(count - 1, rest)
+}
+
+/// The number of variables.
+fn take_variables(bytes: &[u8]) -> Result<(u32, &[u8]), ReadStop>
+    ensures is { Gives (λ x. (x.0, x.1.now)) result (variables_at bytes.now) }
+    ensures few { IfOk result (λ x. x.0 ≤ 1000000) }
+{
+    let (variables, rest) = take_field(bytes)?;
+    if variables > 1_000_000 {
+        return Err(ReadStop::At(Stop {
+            left: bytes.len(),
+            why: AigerWhy::Limit(variables),
+        }));
+    }
+    Ok((variables, rest))
+}
+
+/// The bytes behind the number of latches, which is 0.
+fn take_latches(bytes: &[u8]) -> Result<&[u8], ReadStop>
+    ensures { Gives (λ x. x.now) result (latches_at bytes.now) }
+{
+    let (latches, rest) = take_field(bytes)?;
+    if latches != 0 {
+        return Err(ReadStop::At(Stop {
+            left: bytes.len(),
+            why: AigerWhy::Latches,
+        }));
+    }
+    Ok(rest)
+}
+
+/// The numbers of inputs, latches, outputs and ANDs.
+#[tactic(auto, unfolding(crate::specs::Header::counts_at))]
+fn take_counts(bytes: &[u8]) -> Result<(Header, &[u8]), ReadStop>
+    ensures { Gives (λ x. (x.0, x.1.now)) result (counts_at bytes.now) }
+{
+    let (inputs, rest) = take_field(bytes)?;
+    let rest = take_latches(rest)?;
+    let (outputs, rest) = take_field(rest)?;
+    let (ands, rest) = take_field(rest)?;
+    let header = Header {
+        inputs,
+        outputs,
+        ands,
+    };
+    Ok((header, rest))
+}
+
+/// The first line, and the bytes behind it.
+#[tactic(auto, unfolding(crate::specs::Header::header_at))]
+pub(crate) fn take_header(bytes: &[u8]) -> Result<(Header, &[u8]), ReadStop>
+    ensures is { Gives (λ x. (x.0, x.1.now)) result (header_at bytes.now) }
+    ensures few { IfOk result (λ x. x.0.inputs + x.0.ands ≤ 1000000) }
+{
+    if !begins_file(bytes) {
+        return Err(ReadStop::At(Stop {
+            left: bytes.len(),
+            why: AigerWhy::Header,
+        }));
+    }
+    let (variables, rest) = take_variables(&bytes[4..])?;
+    let (header, rest) = take_counts(rest)?;
+    let behind = take_zeros(count_spaces(bytes) - 5, rest)?;
+    if u64::from(variables) != u64::from(header.inputs) + u64::from(header.ands) {
+        return Err(ReadStop::At(Stop {
+            left: bytes.len(),
+            why: AigerWhy::Header,
+        }));
+    }
+    Ok((header, behind))
+}

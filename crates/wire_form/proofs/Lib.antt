@@ -1,0 +1,12 @@
+pub mod Phrases
+pub mod SoFar
+pub mod Keys
+pub mod TextIn
+pub mod Spelled
+pub mod Distinct
+pub mod Lookups
+pub mod Nets
+pub mod Forms
+pub mod Circuits
+pub mod Timeable
+pub mod Walks

@@ -1,0 +1,12 @@
+pub mod Checks
+pub mod Circuit
+pub mod Form
+pub mod Lexed
+pub mod Lists
+pub mod Names
+pub mod Reading
+pub mod Spelling
+pub mod Places
+pub mod Spells
+pub mod Walking
+pub mod Wires
