@@ -1,0 +1,4 @@
+pub mod Shown
+pub mod Asked
+pub mod Settled
+pub mod Signed

@@ -1,0 +1,142 @@
+-- What the timing of wires finds, as the laws of pulses want it, and what they say of every run.
+use Rattle.std.proofs.Common.{◌≡◌, ◌∙◌, ap, sym, subst, ◌+◌, ℕ, zero, suc, true, List, [], ◌∷◌, get_or, arith, refl}
+use Rattle.std.specs.Option.{option_and_then}
+use Rattle.std.specs.Prelude.{Option, Some, None, slice_get, cond, map, pos}
+use Rattle.std.specs.List.{All, Contains, flat_map, enumerate_from}
+use Rattle.std.proofs.lemmas.List.Elements.{All-contains, Contains-append_right, Contains-get_or}
+use Rattle.rsfq_ids.specs.declared.table.CellRow.{CellRow}
+use Rattle.rsfq_ids.specs.declared.circuit.FlatCell.{FlatCell}
+use Rattle.rsfq_ids.specs.declared.circuit.PortBit.{PortBit}
+use Rattle.rsfq_ids.specs.declared.circuit.Pin.{Pin}
+use Rattle.rsfq_ids.specs.declared.circuit.Strobe.{Strobe}
+use Rattle.rsfq_ids.specs.declared.circuit.PortUse.TheVariants as port_use
+use Rattle.rsfq_ids.specs.declared.circuit.Reader.TheVariants as reader
+use Rattle.rsfq_ids.specs.Design.{Design}
+use Rattle.rsfq_ids.specs.Circuit.{IsOf}
+use Rattle.rsfq_ids.specs.Bench.{IsUsed}
+use Rattle.rsfq_ids.specs.Path.{HasDepth, IsPath}
+use Rattle.rsfq_ids.specs.Offence.{HasNoWindow}
+use Rattle.rsfq_ids.specs.Ready.{IsSetUp}
+use Rattle.rsfq_ids.specs.Signed.{HasAllDepths}
+use Rattle.pulse_laws.specs.Wires.{IsWired, IsOrder, IsWireFrom, AreEnds, depths_of, WiresAreSigned}
+use Rattle.pulse_laws.specs.Statements.{OrderIsFree}
+use Rattle.wire_form.specs.declared.netlist.WireModule.{WireModule}
+use Rattle.wire_form.specs.Wires.{IsTimeable}
+use Rattle.wire_form.specs.Circuit.{jtl_row}
+use Rattle.wire_timing.specs.declared.WireDepth.{WireDepth}
+use Rattle.wire_timing.specs.Wires.{outputs_of, IsWireDepth}
+use Rattle.signoff.specs.declared.words.Times.{Times}
+use Rattle.signoff.specs.Verdict.{timed_design}
+use Rattle.signoff.specs.Headline.{ShowsInput, EveryRunShows}
+use Rattle.signoff.proofs.Shown.{item_beside}
+
+-- ---- lists
+
+-- an item of a list that was made item by item comes from one
+contained_map : {X Y : Type 0} (f : X → Y) (xs : List X) (y : Y) → Contains (map f xs) y → (x : X) × Contains xs x × (f x ≡ y)
+contained_map f [] y at = absurd (let below = at.1 in omega arith)
+contained_map f (x ∷ xs) y (zero, below, is) = (x, (0, omega arith, refl), is)
+contained_map f (x ∷ xs) y (suc i, below, is) =
+    let (found, at, same) = contained_map f xs y (i, omega arith, is) in
+    (found, (suc at.0, (let less = at.1 in omega arith), at.2), same)
+
+map_contains : {X Y : Type 0} (f : X → Y) (xs : List X) (x : X) → Contains xs x → Contains (map f xs) (f x)
+map_contains f [] x at = absurd (let below = at.1 in omega arith)
+map_contains f (x ∷ xs) y (zero, below, is) = (0, omega arith, ap f is)
+map_contains f (x ∷ xs) y (suc i, below, is) =
+    let at = map_contains f xs y (i, omega arith, is) in
+    (suc at.0, (let less = at.1 in omega arith), at.2)
+
+-- the number of an output bit is among those of the outputs
+output_listed : (start : ℕ) (ports : List PortBit) (i : ℕ) (port : PortBit) → slice_get ports i ≡ Some port → port.output ≡ true →
+    Contains (flat_map (λ (n, port). cond port.output (n ∷ []) []) (enumerate_from start ports)) (start + i)
+output_listed start [] i port at is = absurd (cc)
+output_listed start (first ∷ ports) zero port at is =
+    let same : first ≡ port = cc in
+    let out : first.output ≡ true = ap (λ (p : PortBit). p.output) same ∙ is in
+    rw out (0, omega arith, omega arith)
+output_listed start (first ∷ ports) (suc i) port at is =
+    subst (Contains (flat_map (λ (n, port). cond port.output (n ∷ []) []) (enumerate_from start (first ∷ ports)))) (omega arith)
+    (Contains-append_right (cond first.output (start ∷ []) []) (flat_map (λ (n, port). cond port.output (n ∷ []) []) (enumerate_from (start + 1) ports)) (start + 1 + i) (output_listed (start + 1) ports i port at is))
+
+-- ---- the design
+
+-- the one row of the table has no dead time
+one_row : (n : ℕ) (row : CellRow) → slice_get (jtl_row ∷ []) n ≡ Some row → row.dead ≡ pos 0
+one_row zero row is = (let same : jtl_row ≡ row = cc in ap (λ (r : CellRow). r.dead) (sym same))
+one_row (suc n) row is = absurd (cc)
+
+row_of_cell : (found : Option FlatCell) (row : CellRow) → option_and_then (λ c. slice_get (jtl_row ∷ []) c.row) found ≡ Some row → row.dead ≡ pos 0
+row_of_cell None row is = absurd (cc)
+row_of_cell (Some cell) row is = one_row cell.row row is
+
+pub no_dead_time : (times : Times) (top : WireModule) (cell : ℕ) (row : CellRow) → IsOf (timed_design times top) cell row → row.dead ≡ pos 0
+no_dead_time times top cell row of = row_of_cell (slice_get (timed_design times top).flat.cells cell) row of
+
+-- what may be timed is wired
+wired : (design : Design) (order : List ℕ) → IsTimeable design order → ((cell : ℕ) (row : CellRow) → IsOf design cell row → row.dead ≡ pos 0) → IsWired design
+wired design order timeable no_dead = record { set_up = timeable.set_up; jtls = timeable.jtls; no_dead_time = no_dead; clock_unread = timeable.clock; fanout = timeable.fanout }
+
+-- its order of the cells
+ordered : (design : Design) (order : List ℕ) → IsTimeable design order → IsOrder design.flat order
+ordered design order timeable = record { each = timeable.ordered.each; after = timeable.ordered.after }
+
+-- an output with its depth and its input
+abbrev end_of : WireDepth → ℕ × ℕ × ℕ
+end_of line = (line.output, line.depth, line.source)
+
+-- a port bit with a strobe has a line
+line_of : (design : Design) (lines : List WireDepth) → IsSetUp design → map (λ (line : WireDepth). line.output) lines ≡ outputs_of design.flat → (port : ℕ) (strobe : Strobe) → IsUsed design.bench port (port_use.Strobed strobe) →
+    (line : WireDepth) × Contains lines line × (line.output ≡ port)
+line_of design lines set_up outputs port strobe used =
+    let (bit, at) = item_beside design.flat.ports design.bench.uses port (port_use.Strobed strobe) set_up.bench_fits.ports used in
+    let fit = set_up.bench_fits.uses port bit (port_use.Strobed strobe) at used in
+    let listed : Contains (outputs_of design.flat) port = subst (Contains (outputs_of design.flat)) (omega arith) (output_listed 0 design.flat.ports port bit at fit.0) in
+    contained_map (λ (line : WireDepth). line.output) lines port (subst (λ (xs : List ℕ). Contains xs port) (sym outputs) listed)
+
+-- the data input at the other end of a wire
+wire_from : (design : Design) (line : WireDepth) → IsWireDepth design line → IsWireFrom design line.output line.source
+wire_from design line is =
+    let (end, at, path) = is.path in
+    let e : Some end ≡ Some (record { reader = reader.Port line.output; net = is.net }) = sym at ∙ is.ends in
+    let same : end ≡ record { reader = reader.Port line.output; net = is.net } = cc in
+    (is.arcs, is.net, is.used, (is.pin, is.ends), subst (λ (n : ℕ). IsPath design is.arcs n) (ap (λ (p : Pin). p.net) same) path, is.begins, is.source_used, is.source_data)
+
+-- ---- every run
+
+module _ (design : Design) (order : List ℕ) (lines : List WireDepth) (timeable : IsTimeable design order) (outputs : map (λ (line : WireDepth). line.output) lines ≡ outputs_of design.flat)
+    (depths : All (IsWireDepth design) lines) where
+  -- a line's output and depth are in the list
+  depth_listed : (line : WireDepth) → Contains lines line → Contains {X = ℕ × ℕ} (depths_of (map end_of lines)) (line.output, line.depth)
+  depth_listed line at =
+      map_contains {X = ℕ × ℕ × ℕ} {Y = ℕ × ℕ} (λ (port, depth, source). (port, depth)) (map end_of lines) (end_of line) (map_contains end_of lines line at)
+
+  -- each output has a depth in the list
+  all_depths : HasAllDepths design.bench (depths_of (map end_of lines))
+  all_depths port strobe used =
+      let (line, at, same) = line_of design lines timeable.set_up outputs port strobe used in
+      (line.depth, subst (λ (p : ℕ). Contains {X = ℕ × ℕ} (depths_of (map end_of lines)) (p, line.depth)) same (depth_listed line at))
+
+  -- the depths and inputs are those of the lines
+  end_is : (line : WireDepth) (port depth source : ℕ) → IsWireDepth design line → end_of line ≡ (port, depth, source) → HasDepth design (reader.Port port) (pos depth) × IsWireFrom design port source
+  end_is line port depth source is same =
+      let ports : line.output ≡ port = ap (λ (e : ℕ × ℕ × ℕ). e.0) same in
+      let depths_are : line.depth ≡ depth = ap (λ (e : ℕ × ℕ × ℕ). e.1) same in
+      let sources : line.source ≡ source = ap (λ (e : ℕ × ℕ × ℕ). e.2) same in
+      (rw (← ports, ← depths_are) is.depth_is, rw (← ports, ← sources) (wire_from design line is))
+
+  are_ends : AreEnds design (map end_of lines)
+  are_ends port depth source at =
+      let (line, listed, same) = contained_map end_of lines (port, depth, source) at in
+      end_is line port depth source (All-contains (IsWireDepth design) lines line depths listed) same
+
+  pub every_run_shows : WiresAreSigned → OrderIsFree → ((cell : ℕ) (row : CellRow) → IsOf design cell row → row.dead ≡ pos 0) → HasNoWindow design → EveryRunShows design lines
+  every_run_shows wires_are_signed order_is_free no_dead no_window run words any =
+      let signed = wires_are_signed design order (map end_of lines) (wired design order timeable no_dead) (ordered design order timeable) no_window all_depths are_ends in
+      let kept = signed.runs (record run { pulses = any.ordered }) words any.is_run in
+      let free = order_is_free design run any in
+      let shows : (line : WireDepth) → Contains lines line → ShowsInput design run line =
+      λ line at strobe net used reads j below bound.
+      (let wanted = kept.1 line.output line.depth strobe net j (depth_listed line at) used reads below bound in
+      sym (free.1 strobe (j + line.depth) net) ∙ wanted line.depth line.source (map_contains end_of lines line at)) in
+      (free.0.0 kept.0, λ k d below. shows (get_or lines k d) (Contains-get_or lines k d below))

@@ -1,0 +1,5 @@
+pub mod Words
+pub mod Text
+pub mod Headline
+pub mod Verdict
+pub mod Run
