@@ -1,0 +1,4 @@
+pub mod Marked
+pub mod Readings
+pub mod Steps
+pub mod Sound

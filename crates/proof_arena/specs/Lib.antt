@@ -1,0 +1,6 @@
+pub mod Formula
+pub mod Step
+pub mod Table
+pub mod Stamps
+pub mod Log
+pub mod Held

@@ -1,0 +1,19 @@
+//! A log of proof steps over a formula, each of which holds.
+//!
+//! A step adds a clause, and names by its hints the earlier clauses from which the clause follows. The log's type keeps that each step
+//! holds against the clauses before it, so a log that ends in the empty clause shows that no assignment satisfies the formula.
+#![tactic(auto)]
+
+mod answer;
+mod hint;
+mod log;
+mod marks;
+mod step;
+#[cfg(test)]
+mod tests;
+
+pub use answer::Answer;
+pub use hint::HintReading;
+pub use log::ProofLog;
+pub use marks::Marks;
+pub use step::step_holds;
