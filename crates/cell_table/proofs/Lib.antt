@@ -1,0 +1,3 @@
+pub mod PinLists
+pub mod ReadFacts
+pub mod RowFacts

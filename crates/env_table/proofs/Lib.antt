@@ -1,0 +1,3 @@
+pub mod EnvFacts
+pub mod PlaceFacts
+pub mod ReadFacts

@@ -1,0 +1,6 @@
+pub mod CheckFacts
+pub mod FieldList
+pub mod Places
+pub mod RecordList
+pub mod RowLists
+pub mod TimeFacts

@@ -1,0 +1,143 @@
+//! The checks of a record's fields that both tables make.
+
+ghost use Rattle.std.specs.Prelude.{◌≡◌, None, Some, OnOk, IfOk, IfErr, map};
+ghost use Rattle.std.specs.Str.{bytes_eq, is_utf8};
+ghost use Rattle.csv.specs.Records.{fields_of};
+ghost use Rattle.table_fields.specs.Records.{are_fields, count_fault, empty_fault, head_fault, text_fault, time_fault, time_of};
+
+use crate::numbers::{NumberRead, read_number};
+use crate::records::field_at;
+use crate::table_fault::TableWhy;
+use csv::ByteRecord;
+
+/// The greatest time of a table, in femtoseconds.
+pub const LONGEST: u64 = 1_000_000_000;
+
+fn is_text(field: &[u8]) -> bool
+    ensures { result ≡ is_utf8 field.now }
+{
+    match std::str::from_utf8(field) {
+        Ok(_) => true,
+        Err(_) => false,
+    }
+}
+
+/// Checks that every field of a record is UTF-8.
+pub fn check_text(fields: &ByteRecord) -> Result<(), TableWhy>
+    ensures good { OnOk result (text_fault (fields_of fields.now) ≡ None) }
+    ensures fault { IfErr result (λ why. text_fault (fields_of fields.now) ≡ Some why) }
+{
+    for place in 0..fields.len() {
+        if !is_text(field_at(fields, place)) {
+            return Err(TableWhy::Utf8);
+        }
+    }
+    Ok(())
+}
+
+/// Checks that a record has so many fields.
+pub fn check_count(fields: &ByteRecord, count: usize) -> Result<(), TableWhy>
+    ensures good { OnOk result (count_fault count (fields_of fields.now) ≡ None) }
+    ensures fault { IfErr result (λ why. count_fault count (fields_of fields.now) ≡ Some why) }
+{
+    if fields.len() != count {
+        return Err(TableWhy::Fields(fields.len() as u64));
+    }
+    Ok(())
+}
+
+/// Reads the field of a column, from 0, that holds a time of at least so many femtoseconds.
+pub fn read_time(field: &[u8], column: u32, least: u64) -> Result<i64, TableWhy>
+    ensures time { IfOk result (λ time. (time_fault column least field.now ≡ None) × (time ≡ time_of field.now)) }
+    ensures fault { IfErr result (λ why. time_fault column least field.now ≡ Some why) }
+{
+    match read_number(field, LONGEST) {
+        NumberRead::Malformed => Err(TableWhy::Number(column)),
+        NumberRead::TooLarge => Err(TableWhy::OutOfRange(column)),
+        NumberRead::Value(number) => {
+            if number < least {
+                Err(TableWhy::OutOfRange(column))
+            } else {
+                Ok(number as i64)
+            }
+        }
+    }
+}
+
+/// Checks that the field of a column is empty.
+pub fn check_empty(field: &[u8], column: u32) -> Result<(), TableWhy>
+    ensures good { OnOk result (empty_fault column field.now ≡ None) }
+    ensures fault { IfErr result (λ why. empty_fault column field.now ≡ Some why) }
+{
+    if field.is_empty() {
+        Ok(())
+    } else {
+        Err(TableWhy::Number(column))
+    }
+}
+
+fn is_same(field: &[u8], wanted: &[u8]) -> bool
+    ensures { result ≡ bytes_eq field.now wanted.now }
+{
+    field == wanted
+}
+
+fn are_fields(fields: &ByteRecord, wanted: &[&str]) -> bool
+    ensures { result ≡ are_fields (map (λ field. field.now) wanted.now) (fields_of fields.now) }
+{
+    if fields.len() != wanted.len() {
+        return false;
+    }
+    for place in 0..wanted.len() {
+        if !is_same(field_at(fields, place), wanted[place].as_bytes()) {
+            return false;
+        }
+    }
+    true
+}
+
+/// Checks that a record is the head of a table.
+#[tactic(auto, unfolding(crate::specs::Records::first_of))]
+pub fn check_head(fields: &ByteRecord, head: &[&str]) -> Result<(), TableWhy>
+    ensures good { OnOk result (head_fault (map (λ field. field.now) head.now) (fields_of fields.now) ≡ None) }
+    ensures fault { IfErr result (λ why. head_fault (map (λ field. field.now) head.now) (fields_of fields.now) ≡ Some why) }
+{
+    check_text(fields)?;
+    if !are_fields(fields, head) {
+        return Err(TableWhy::Header);
+    }
+    Ok(())
+}
+
+#[cfg(test)]
+mod tests {
+    use crate::checks::{check_head, read_time};
+    use crate::name_table::NameTable;
+    use crate::names::is_plain_name;
+    use crate::records::read_records;
+    use crate::table_fault::TableWhy;
+    use std::test::Fail;
+
+    #[test]
+    fn records_fields_and_names(rt: HostRuntime) -> Result<(), Fail> {
+        let Ok(records) = read_records(rt.alloc(), b"\na,b\n\n\"c d\",e,f") else {
+            panic!(rt; "no memory");
+        };
+        assert_eq!(rt; records.len(), 2);
+        assert!(rt; check_head(&records[0], &["a", "b"]).is_ok());
+        assert!(rt; check_head(&records[1], &["c d", "e"]).is_err());
+        assert_eq!(rt; read_time(b"007", 3, 0), Ok(7));
+        assert_eq!(rt;
+            read_time(b"1000000001", 3, 0),
+            Err(TableWhy::OutOfRange(3))
+        );
+        assert!(rt; is_plain_name(b"_a$9"));
+        assert!(rt; !is_plain_name(b"task"));
+        let mut names = NameTable::new(rt.alloc());
+        assert!(rt; names.see("x").is_ok());
+        assert!(rt; names.see("y").is_ok());
+        assert_eq!(rt; names.place("y"), Some(1));
+        assert_eq!(rt; names.place("z"), None);
+        Ok(())
+    }
+}

@@ -1,0 +1,9 @@
+//! What the cell table and the timing table share: records by csv's rules, and the checks of their fields.
+#![tactic(auto)]
+
+pub mod checks;
+pub mod name_table;
+pub mod names;
+mod numbers;
+pub mod records;
+pub mod table_fault;
