@@ -47,7 +47,8 @@ fn read_source<'a>(alloc: Global, bytes: &'a [u8], tokens: &'a [Token]) -> Resul
 }
 
 /// The tree that the tokens of a text spell: it is answered exactly where they spell one, unless
-/// memory runs out. Else `NoTree` holds the first token that no tree goes on with.
+/// memory runs out; `words_spell_one_tree` says that there is at most one. Else `NoTree` holds the number of the first token
+/// that no tree goes on with, or of the tokens where they begin a tree and spell none.
 ///
 /// The tokens are those of the text, which is within the file limit of 16,777,216 bytes.
 pub fn parse(alloc: Global, bytes: &[u8], tokens: &List<Token>) -> Result<Source, ParseFault>
@@ -56,7 +57,7 @@ pub fn parse(alloc: Global, bytes: &[u8], tokens: &List<Token>) -> Result<Source
     // The tokens spell the tree that is answered.
     ensures found { IfOk result (λ tree. SpellsSource (view_source tree) (words bytes.now tokens.now)) }
     ensures formed { IfOk result (λ tree. IsSpelledTree (view_source tree)) }
-    // Where they spell a tree it is answered, so they spell one at most.
+    // Where they spell a tree it is answered.
     ensures only { (tree : List Module) → SpellsSource tree (words bytes.now tokens.now) → IsTreeOrMemory tree result }
     // Where they spell none, the first place with which no tree goes on.
     ensures fault { IfErr result (Explains (words bytes.now tokens.now)) }

@@ -11,8 +11,8 @@ use std::alloc::Global;
 use verilog_lex::written_words_are_read;
 
 /// Appends the printed form of a tree: its tokens, each followed by one blank, which is a newline
-/// behind `;` and `endmodule` and a space elsewhere. Lexing and parsing it gives the tree again,
-/// where it is within the file limit.
+/// behind `;` and `endmodule` and a space elsewhere. For a tree that some tokens spell, lexing and
+/// parsing it gives the tree again, where it is within the file limit.
 ///
 /// `NoMemory` comes for want of memory alone, and then `out` is as it was.
 pub fn print(alloc: Global, source: &Source, out: &mut Vec<u8>) -> Result<(), NoMemory>
