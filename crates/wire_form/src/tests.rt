@@ -94,10 +94,30 @@ const CASES: &[(&str, bool)] = &[
         "module t(input clk, input a, output y); JTL j(.a(a), .q(y)); JTL k(.a(y), .q(w)); endmodule",
         false,
     ),
+    // One condition broken alone: an instance's name twice, a name on two .q, an input on a .q, an undriven .a, an instance named as a
+    // wire, no input clk, a JTL that reads what it drives, a port's name twice.
     (
-        "module t(input clk, input a, output y); JTL j(.a(a), .q(y)); JTL j(.a(clk2), .q(w)); endmodule",
+        "module t(input clk, input a, input b, output y, output z); JTL j(.a(a), .q(y)); JTL j(.a(b), .q(z)); endmodule",
         false,
     ),
+    (
+        "module t(input clk, input a, input b); JTL j(.a(a), .q(x)); JTL k(.a(b), .q(x)); endmodule",
+        false,
+    ),
+    (
+        "module t(input clk, input a, input b); JTL j(.a(a), .q(b)); endmodule",
+        false,
+    ),
+    ("module t(input clk); JTL j(.a(x), .q(w)); endmodule", false),
+    (
+        "module t(input clk, input a); JTL w(.a(a), .q(w)); endmodule",
+        false,
+    ),
+    (
+        "module t(input a, output clk); JTL j(.a(a), .q(clk)); endmodule",
+        false,
+    ),
+    ("module t(input clk); JTL j(.a(x), .q(x)); endmodule", false),
     ("module t(input clk, input a, input a); endmodule", false),
 ];
 

@@ -62,7 +62,7 @@ pub record IsFirstAt (design : Design) (pin : PinId) (pulse : PathPick) (number 
       difference design strobe pulse number ≤ℤ difference design strobe other n
   pub raised : AreRaisedInOrder design pulse.arcs pulse.delays
 
--- The first window offence of a circuit without gates: no pin before its own has one. Pins are numbered so that those of output bits stand in port order.
+-- The first window offence of a circuit in which each pin has one path, as JTLs make it: no pin before its own has one. Pins are numbered so that those of output bits stand in port order.
 pub record IsFirstWindow (design : Design) (pin : PinId) (pulse : PathPick) (number : ℕ) : Type 0 where
   pub earlier : (before : PinId) → before < pin → HasNoWindowAt design before
   pub here : IsFirstAt design pin pulse number
