@@ -9,8 +9,8 @@ use Rattle.std.proofs.lemmas.List.{get_or-drop, get_or-take, map_more, length-dr
 use Rattle.std.proofs.lemmas.Slice.Eq.{bytes_eq-Decides}
 use Rattle.rsfq_ids.specs.declared.table.CellRow.{CellRow}
 use Rattle.rsfq_ids.specs.declared.table.CellTable.{CellTable}
-use Rattle.table_fields.specs.declared.table_fault.TableWhy.{TableWhy}
-use Rattle.table_fields.specs.declared.table_fault.TableWhy.TheVariants.{Header, Repeated}
+use Rattle.rsfq_ids.specs.declared.table_fault.TableWhy.{TableWhy}
+use Rattle.rsfq_ids.specs.declared.table_fault.TableWhy.TheVariants.{Header, Repeated}
 use Rattle.rsfq_ids.specs.WellFormed.{AreDistinct, IsTable}
 use Rattle.table_fields.specs.Names.{place_of, with_name}
 use Rattle.table_fields.specs.Records.{field, first_of}

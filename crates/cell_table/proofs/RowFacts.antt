@@ -12,8 +12,8 @@ use Rattle.std.proofs.Math.Nat.{pow-suc}
 use Rattle.rsfq_ids.specs.declared.table.Kind.{Kind}
 use Rattle.rsfq_ids.specs.declared.table.Kind.TheVariants as kind
 use Rattle.rsfq_ids.specs.declared.table.CellRow.{CellRow}
-use Rattle.table_fields.specs.declared.table_fault.TableWhy.{TableWhy}
-use Rattle.table_fields.specs.declared.table_fault.TableWhy.TheVariants.{Function, Interval, Kind as NoKind, Name, Number, Pins}
+use Rattle.rsfq_ids.specs.declared.table_fault.TableWhy.{TableWhy}
+use Rattle.rsfq_ids.specs.declared.table_fault.TableWhy.TheVariants.{Function, Interval, Kind as NoKind, Name, Number, Pins}
 use Rattle.rsfq_ids.specs.WellFormed.{AreDistinct, FitsKind, IsPositiveTime, IsRow, IsTime}
 use Rattle.table_fields.specs.Records.{count_fault, empty_fault, field, text_fault, first_of, is_empty, time_fault, time_of, unless}
 use Rattle.table_fields.proofs.CheckFacts.{and_left, and_right, none_first, none_later, passed}

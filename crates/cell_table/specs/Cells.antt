@@ -6,9 +6,9 @@ use Rattle.rsfq_ids.specs.declared.table.Kind.{Kind}
 use Rattle.rsfq_ids.specs.declared.table.Kind.TheVariants as kind
 use Rattle.rsfq_ids.specs.declared.table.CellRow.{CellRow}
 use Rattle.rsfq_ids.specs.declared.table.CellTable.{CellTable}
-use Rattle.table_fields.specs.declared.table_fault.TableFault.{TableFault}
-use Rattle.table_fields.specs.declared.table_fault.TableWhy.{TableWhy}
-use Rattle.table_fields.specs.declared.table_fault.TableWhy.TheVariants.{Name, Kind as NoKind, Repeated}
+use Rattle.rsfq_ids.specs.declared.table_fault.TableFault.{TableFault}
+use Rattle.rsfq_ids.specs.declared.table_fault.TableWhy.{TableWhy}
+use Rattle.rsfq_ids.specs.declared.table_fault.TableWhy.TheVariants.{Name, Kind as NoKind, Repeated}
 use Rattle.table_fields.specs.Names.{is_plain_name, place_of}
 use Rattle.table_fields.specs.Records.{count_fault, field, first_of, head_fault, text_fault, time_of, unless}
 use Rattle.cell_table.specs.Fields.{function_fault, times_fault, truth_of}

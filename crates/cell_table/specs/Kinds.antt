@@ -4,8 +4,8 @@ use Rattle.std.specs.List.{list_all, list_any, slice_split}
 use Rattle.std.specs.Str.{bytes_eq}
 use Rattle.rsfq_ids.specs.declared.table.Kind.{Kind}
 use Rattle.rsfq_ids.specs.declared.table.Kind.TheVariants as kind
-use Rattle.table_fields.specs.declared.table_fault.TableWhy.{TableWhy}
-use Rattle.table_fields.specs.declared.table_fault.TableWhy.TheVariants.{Pins}
+use Rattle.rsfq_ids.specs.declared.table_fault.TableWhy.{TableWhy}
+use Rattle.rsfq_ids.specs.declared.table_fault.TableWhy.TheVariants.{Pins}
 use Rattle.table_fields.specs.Names.{is_plain_name}
 use Rattle.table_fields.specs.Records.{is_empty, unless}
 

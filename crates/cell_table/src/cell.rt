@@ -18,7 +18,7 @@ use table_fields::checks::{check_count, check_text};
 use table_fields::name_table::NameTable;
 use table_fields::names::is_plain_name;
 use table_fields::records::{field_at, text_at};
-use table_fields::table_fault::TableWhy;
+use rsfq_ids::table_fault::TableWhy;
 
 /// Makes the first checks of a cell, and reads its kind.
 #[tactic(auto, unfolding(table_fields::specs::Records::first_of))]

@@ -5,7 +5,7 @@ ghost use Rattle.std.specs.List.{list_all};
 ghost use Rattle.cell_table.specs.Fields.{fits_function, function_fault, is_bit, truth_of};
 
 use rsfq_ids::table::Kind;
-use table_fields::table_fault::TableWhy;
+use rsfq_ids::table_fault::TableWhy;
 
 fn are_bits(digits: &[u8]) -> bool
     ensures { result ≡ list_all is_bit digits.now }

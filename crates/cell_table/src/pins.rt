@@ -13,7 +13,7 @@ use rsfq_ids::name::Name;
 use rsfq_ids::table::Kind;
 use std::alloc::{AllocError, Global};
 use table_fields::names::is_plain_name;
-use table_fields::table_fault::TableWhy;
+use rsfq_ids::table_fault::TableWhy;
 
 /// The pins of a cell by their names.
 #[derive(Drop)]

@@ -5,7 +5,7 @@ ghost use Rattle.std.specs.List.{All};
 ghost use Rattle.csv.specs.Records.{fields_of};
 ghost use Rattle.rsfq_ids.specs.WellFormed.{IsTable};
 ghost use Rattle.rsfq_ids.specs.declared.table.CellRow.{CellRow};
-ghost use Rattle.table_fields.specs.declared.table_fault.TableWhy.{TableWhy};
+ghost use Rattle.rsfq_ids.specs.declared.table_fault.TableWhy.{TableWhy};
 ghost use Rattle.table_fields.specs.Records.{head_fault, records_of};
 ghost use Rattle.cell_table.specs.Cells.{AreCellsOf, HasPlainNames, IsFirstFault, StandsFor, first_names, head, row_fault};
 
@@ -17,7 +17,7 @@ use std::alloc::Global;
 use table_fields::checks::check_head;
 use table_fields::name_table::NameTable;
 use table_fields::records::{read_records, text_at};
-use table_fields::table_fault::{TableFault, TableWhy};
+use rsfq_ids::table_fault::{TableFault, TableWhy};
 
 const NO_MEMORY: TableFault = TableFault {
     row: 0,

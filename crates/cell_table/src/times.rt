@@ -9,7 +9,7 @@ use csv::ByteRecord;
 use rsfq_ids::table::Kind;
 use table_fields::checks::{check_empty, read_time};
 use table_fields::records::field_at;
-use table_fields::table_fault::TableWhy;
+use rsfq_ids::table_fault::TableWhy;
 
 /// The times of a cell, in femtoseconds.
 #[derive(Clone, Copy)]

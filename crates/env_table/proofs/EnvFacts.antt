@@ -6,8 +6,8 @@ use Rattle.std.specs.Str.Parse.{digits_value}
 use Rattle.std.proofs.lemmas.List.{get_or-drop, length-drop}
 use Rattle.std.proofs.lemmas.List.Elements.{All-cons, All-nil}
 use Rattle.rsfq_ids.specs.declared.circuit.PortUse.TheVariants as port_use
-use Rattle.table_fields.specs.declared.table_fault.TableWhy.{TableWhy}
-use Rattle.table_fields.specs.declared.table_fault.TableWhy.TheVariants.{Interval}
+use Rattle.rsfq_ids.specs.declared.table_fault.TableWhy.{TableWhy}
+use Rattle.rsfq_ids.specs.declared.table_fault.TableWhy.TheVariants.{Interval}
 use Rattle.rsfq_ids.specs.WellFormed.{IsPositiveTime}
 use Rattle.rsfq_ids.specs.Time.{IsWithin}
 use Rattle.table_fields.specs.Records.{empty_fault, field, time_fault, time_of, unless}

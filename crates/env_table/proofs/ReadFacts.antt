@@ -6,9 +6,9 @@ use Rattle.std.proofs.lemmas.Bool.{lt-ltb, le-ltb, ltb-true, ltb-false}
 use Rattle.std.proofs.lemmas.List.{get_or-drop, length-drop, length-take, take_all, take_more}
 use Rattle.std.proofs.lemmas.List.Quantifiers.{position-Some}
 use Rattle.std.proofs.lemmas.List.Elements.{filter_map-append}
-use Rattle.table_fields.specs.declared.table_fault.TableFault.{TableFault}
-use Rattle.table_fields.specs.declared.table_fault.TableWhy.{TableWhy}
-use Rattle.table_fields.specs.declared.table_fault.TableWhy.TheVariants.{Header, Kind, Period, Pins, Repeated}
+use Rattle.rsfq_ids.specs.declared.table_fault.TableFault.{TableFault}
+use Rattle.rsfq_ids.specs.declared.table_fault.TableWhy.{TableWhy}
+use Rattle.rsfq_ids.specs.declared.table_fault.TableWhy.TheVariants.{Header, Kind, Period, Pins, Repeated}
 use Rattle.table_fields.specs.Records.{count_fault, field, first_of, text_fault, time_of, unless}
 use Rattle.table_fields.proofs.RowLists.{below_suc}
 use Rattle.table_fields.proofs.CheckFacts.{none_first, none_later, passed, skip, skipped, stop}

@@ -8,9 +8,9 @@ use Rattle.env_table.specs.declared.env.Env.{Env}
 use Rattle.env_table.specs.declared.env.EnvLine.{EnvLine}
 use Rattle.rsfq_ids.specs.declared.circuit.PortUse.{PortUse}
 use Rattle.rsfq_ids.specs.declared.circuit.PortUse.TheVariants as port_use
-use Rattle.table_fields.specs.declared.table_fault.TableFault.{TableFault}
-use Rattle.table_fields.specs.declared.table_fault.TableWhy.{TableWhy}
-use Rattle.table_fields.specs.declared.table_fault.TableWhy.TheVariants.{Kind, Period, Pins, Repeated}
+use Rattle.rsfq_ids.specs.declared.table_fault.TableFault.{TableFault}
+use Rattle.rsfq_ids.specs.declared.table_fault.TableWhy.{TableWhy}
+use Rattle.rsfq_ids.specs.declared.table_fault.TableWhy.TheVariants.{Kind, Period, Pins, Repeated}
 use Rattle.rsfq_ids.specs.WellFormed.{IsPositiveTime, IsTime}
 use Rattle.table_fields.specs.Records.{count_fault, field, first_of, head_fault, text_fault, time_of, unless}
 use Rattle.env_table.specs.Roles.{fits_port, role_of, times_fault}

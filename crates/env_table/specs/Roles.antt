@@ -4,8 +4,8 @@ use Rattle.std.specs.Str.{bytes_eq}
 use Rattle.std.specs.Str.Parse.{digits_value}
 use Rattle.env_table.specs.declared.role.Role.{Role}
 use Rattle.env_table.specs.declared.role.Role.TheVariants as role
-use Rattle.table_fields.specs.declared.table_fault.TableWhy.{TableWhy}
-use Rattle.table_fields.specs.declared.table_fault.TableWhy.TheVariants.{Interval}
+use Rattle.rsfq_ids.specs.declared.table_fault.TableWhy.{TableWhy}
+use Rattle.rsfq_ids.specs.declared.table_fault.TableWhy.TheVariants.{Interval}
 use Rattle.table_fields.specs.Records.{empty_fault, field, first_of, is_empty, time_fault, unless}
 
 -- the word for a role

@@ -7,8 +7,8 @@ use Rattle.env_table.specs.declared.role.Role.TheVariants as role
 use Rattle.env_table.specs.declared.line.Said.{Said}
 use Rattle.env_table.specs.declared.line.Said.TheVariants as said
 use Rattle.env_table.specs.declared.read.SoFar.{SoFar}
-use Rattle.table_fields.specs.declared.table_fault.TableWhy.{TableWhy}
-use Rattle.table_fields.specs.declared.table_fault.TableWhy.TheVariants.{Repeated}
+use Rattle.rsfq_ids.specs.declared.table_fault.TableWhy.{TableWhy}
+use Rattle.rsfq_ids.specs.declared.table_fault.TableWhy.TheVariants.{Repeated}
 use Rattle.table_fields.specs.Records.{field, time_of}
 use Rattle.env_table.specs.Lines.{is_period, line_as, line_of, row_fault}
 

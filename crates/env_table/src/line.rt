@@ -2,7 +2,7 @@
 
 ghost use Rattle.std.specs.Prelude.{◌≡◌, ◌≢◌, OnOk, IfOk, IfErr, None, Some, length, ℤ, ◌∷◌, []};
 ghost use Rattle.csv.specs.Records.{fields_of};
-ghost use Rattle.table_fields.specs.declared.table_fault.TableWhy.{TableWhy};
+ghost use Rattle.rsfq_ids.specs.declared.table_fault.TableWhy.{TableWhy};
 ghost use Rattle.table_fields.specs.Records.{IsCause, count_fault, field, first_of, text_fault, time_of, unless};
 ghost use Rattle.env_table.specs.Roles.{fits_port, one_fault, role_of, times_fault};
 ghost use Rattle.env_table.specs.Lines.{role_in, start_fault};
@@ -16,7 +16,7 @@ use rsfq_ids::name::Name;
 use std::alloc::Global;
 use table_fields::checks::{check_count, check_empty, check_text, read_time};
 use table_fields::records::{field_at, text_at};
-use table_fields::table_fault::TableWhy;
+use rsfq_ids::table_fault::TableWhy;
 
 /// What a line says: the period, or something of a port.
 #[derive(Drop)]

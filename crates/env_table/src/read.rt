@@ -2,7 +2,7 @@
 
 ghost use Rattle.std.specs.Prelude.{◌≡◌, ◌≢◌, ◌+◌, ◌<◌, ◌≤◌, ◌^◌, ℕ, suc, zero, OnOk, IfOk, IfErr, IfSome, None, Some, length, map, option_map, ◌-◌};
 ghost use Rattle.csv.specs.Records.{fields_of};
-ghost use Rattle.table_fields.specs.declared.table_fault.TableWhy.{TableWhy};
+ghost use Rattle.rsfq_ids.specs.declared.table_fault.TableWhy.{TableWhy};
 ghost use Rattle.table_fields.specs.Records.{head_fault, records_of};
 ghost use Rattle.env_table.specs.Lines.{AreLinesOf, IsEnv, IsFirstFault, head, row_fault};
 ghost use Rattle.env_table.specs.Said.{Adds, Blocks, IsReadUpTo};
@@ -14,7 +14,7 @@ use rsfq_ids::list::List;
 use std::alloc::Global;
 use table_fields::checks::check_head;
 use table_fields::records::read_records;
-use table_fields::table_fault::{TableFault, TableWhy};
+use rsfq_ids::table_fault::{TableFault, TableWhy};
 
 const NO_MEMORY: TableFault = TableFault {
     row: 0,

@@ -7,7 +7,7 @@ use Rattle.std.proofs.Math.Nat.{div-add-mod}
 use Rattle.std.proofs.lemmas.List.{get_or-set_same, get_or-set_other, length-map}
 use Rattle.std.proofs.lemmas.Bool.{cases_Bool, eqb-true, eq-eqb}
 use Rattle.std.proofs.lemmas.List.Elements.{All-head, All-tail}
-use Rattle.proof_arena.specs.Formula.{opposite}
+use Rattle.rsfq_ids.specs.Formula.{opposite}
 use Rattle.proof_arena.specs.Step.{makes_false}
 use Rattle.proof_arena.specs.Table.{falses_of}
 

@@ -9,7 +9,7 @@ use Rattle.std.proofs.lemmas.List.Elements.{filter-append, All-filter, All-head}
 use Rattle.std.proofs.lemmas.List.{take_more}
 use Rattle.std.proofs.lemmas.Option.{slice_get_past}
 use Rattle.std.proofs.lemmas.List.Folds.{list_any-append, list_all-append}
-use Rattle.proof_arena.specs.Formula.{Clause, opposite, IsOver}
+use Rattle.rsfq_ids.specs.Formula.{Clause, opposite, IsOver}
 use Rattle.proof_arena.specs.Step.{reading, reading_of_rest, reads_on, reads_open, is_among, makes_false, is_tautology, ends_in_conflict, StepHolds}
 use Rattle.proof_arena.specs.Table.{falses_of}
 use Rattle.proof_arena.proofs.Marked.{none_falses}

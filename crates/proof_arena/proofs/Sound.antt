@@ -7,7 +7,7 @@ use Rattle.std.proofs.Math.Nat.{div-add-mod, mod-lt}
 use Rattle.std.proofs.lemmas.Bool.{cases_Bool, eqb-true}
 use Rattle.std.proofs.lemmas.Option.{slice_get-map, slice_get_within, get_or_from_slice_get}
 use Rattle.std.proofs.lemmas.List.Elements.{All-push, All-tail}
-use Rattle.proof_arena.specs.Formula.{Clause, opposite, value_of, Satisfies, HasSolution}
+use Rattle.rsfq_ids.specs.Formula.{Clause, opposite, value_of, Satisfies, HasSolution}
 use Rattle.proof_arena.specs.Step.{reading_of_rest, is_among, makes_false, after_hint, after_clause, ends_in_conflict, StepHolds}
 use Rattle.proof_arena.specs.Log.{LogStep, StepsHold, HasEnded, lits_of}
 use Rattle.proof_arena.proofs.Marked.{eqb-false}

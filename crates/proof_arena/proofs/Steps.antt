@@ -9,7 +9,7 @@ use Rattle.std.proofs.lemmas.Grind.{common_steps}
 use Rattle.std.specs.List.{All}
 use Rattle.std.proofs.lemmas.List.Elements.{All-cons, All-append}
 use Rattle.std.proofs.lemmas.Option.{slice_get_within, get_or_from_slice_get}
-use Rattle.proof_arena.specs.Formula.{Clause, IsOver}
+use Rattle.rsfq_ids.specs.Formula.{Clause, IsOver}
 use Rattle.proof_arena.specs.Step.{StepHolds}
 use Rattle.proof_arena.specs.Log.{Log, LogStep, StepsHold, HasEnded, clauses_of, lits_of}
 use Rattle.proof_arena.specs.Held.{log_of, step_of, IsSound}

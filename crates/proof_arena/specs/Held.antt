@@ -1,6 +1,6 @@
 -- The log that the fields hold.
 use Rattle.std.specs.Prelude.{◌<◌, ◌^◌, map, length}
-use Rattle.proof_arena.specs.Formula.{IsFormula}
+use Rattle.rsfq_ids.specs.Formula.{IsFormula}
 use Rattle.proof_arena.specs.Log.{Log, LogStep, StepsHold, clauses_of}
 use Rattle.proof_arena.specs.declared.log.Step.{Step}
 use Rattle.proof_arena.specs.declared.log.ProofLog.TheInside.{Inside}

@@ -1,4 +1,3 @@
-pub mod Formula
 pub mod Step
 pub mod Table
 pub mod Stamps

@@ -1,6 +1,6 @@
 -- What a proof log means: the clauses that were given, and the steps after them.
 use Rattle.std.specs.Prelude.{◌≡◌, ℕ, ◌-◌, List, [], ◌∷◌, ◌++◌, length, map, ⊤, IsSomeAnd, slice_get}
-use Rattle.proof_arena.specs.Formula.{Clause}
+use Rattle.rsfq_ids.specs.Formula.{Clause}
 use Rattle.proof_arena.specs.Step.{StepHolds}
 
 pub record LogStep : Type 0 where

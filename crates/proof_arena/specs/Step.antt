@@ -4,7 +4,7 @@ use Rattle.std.specs.Prelude.{◌≡◌, ℕ, ◌==◌, Bool, true, false, not, 
 use Rattle.std.specs.List.{list_any, list_all, filter}
 use Rattle.proof_arena.specs.declared.hint.HintReading.{HintReading}
 use Rattle.proof_arena.specs.declared.hint.HintReading.TheVariants.{Conflict, Passed, Unit as UnitLit, NotUnit}
-use Rattle.proof_arena.specs.Formula.{Clause, opposite, IsOver}
+use Rattle.rsfq_ids.specs.Formula.{Clause, opposite, IsOver}
 
 -- whether a literal is among those of a clause
 abbrev pub is_among : Clause → ℕ → Bool

@@ -1,7 +1,7 @@
 //! The log: its clauses and hints lie in an arena, which is owned outside and outlives it.
 ghost use Rattle.std.specs.Prelude.{◌≡◌, ℕ, ◌+◌, ◌-◌, ◌<◌, ◌≤◌, ◌^◌, ◌↔◌, IsTrue, List, [], ◌∷◌, ◌++◌, length, Some, slice_get, IfOk, OnErr};
 ghost use Rattle.std.specs.Option.{option_map};
-ghost use Rattle.proof_arena.specs.Formula.{IsFormula, IsOver, HasSolution};
+ghost use Rattle.rsfq_ids.specs.Formula.{IsFormula, IsOver, HasSolution};
 ghost use Rattle.proof_arena.specs.Step.{StepHolds};
 ghost use Rattle.proof_arena.specs.Log.{LogStep, clauses_of, StepsHold, HasEnded};
 

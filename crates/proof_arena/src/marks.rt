@@ -4,7 +4,7 @@
 //! step costs no more than its own literals and those of its hints.
 ghost use Rattle.std.specs.Prelude.{◌≡◌, ◌||◌, ℕ, ◌+◌, ◌*◌, ◌<◌, ◌^◌, IfOk, length, replicate, slice_set, true, false};
 ghost use Rattle.std.specs.List.{All, list_any};
-ghost use Rattle.proof_arena.specs.Formula.{opposite};
+ghost use Rattle.rsfq_ids.specs.Formula.{opposite};
 ghost use Rattle.proof_arena.specs.Step.{is_among, makes_false, reading, reads_on};
 ghost use Rattle.proof_arena.specs.Table.{falses_of};
 

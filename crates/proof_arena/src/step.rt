@@ -1,7 +1,7 @@
 //! Whether a step holds, before it is added.
 ghost use Rattle.std.specs.Prelude.{◌≡◌, ◌*◌, ◌<◌, ◌≤◌, ◌↔◌, IsTrue, length};
 ghost use Rattle.std.specs.List.{All};
-ghost use Rattle.proof_arena.specs.Formula.{IsOver};
+ghost use Rattle.rsfq_ids.specs.Formula.{IsOver};
 ghost use Rattle.proof_arena.specs.Step.{StepHolds, ends_in_conflict};
 ghost use Rattle.proof_arena.specs.Table.{falses_of};
 ghost use Rattle.proof_arena.specs.Log.{clauses_of};

@@ -1,6 +1,6 @@
 //! A log over the formula `1`, `-1` of one variable.
 ghost use Rattle.std.specs.Prelude.{IfOk};
-ghost use Rattle.proof_arena.specs.Formula.{IsFormula};
+ghost use Rattle.rsfq_ids.specs.Formula.{IsFormula};
 
 use crate::{Marks, ProofLog, step_holds};
 use bumpalo::Bump;

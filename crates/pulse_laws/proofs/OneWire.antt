@@ -2,7 +2,7 @@
 use Rattle.std.proofs.Common.{lit<, ◌≡◌, ◌≢◌, ◌⊎◌, inl, inr, ◌↔◌, ℕ, zero, suc, ◌<◌, true, ℤ, pos, ◌+ℤ◌, ◌*ℤ◌, ◌≤ℤ◌, ◌<ℤ◌, List, [], ◌∷◌, refl, sym, ap, ◌∙◌, subst, arith}
 use Rattle.std.proofs.lemmas.Int.{ints, by_lt_z}
 use Rattle.std.proofs.lemmas.Bool.{false≢true}
-use Rattle.std.specs.Prelude.{None, slice_get}
+use Rattle.std.specs.Prelude.{None, slice_get, slice_index_or}
 use Rattle.std.specs.List.{AllZip, Contains}
 use Rattle.rsfq_ids.specs.declared.table.CellRow.{CellRow}
 use Rattle.rsfq_ids.specs.declared.circuit.Pin.{Pin}
@@ -29,7 +29,8 @@ use Rattle.rsfq_ids.specs.Offence.{ReadsFrom, IsHeldAgainst, HasNoWindow}
 use Rattle.pulse_laws.specs.Examples.{jtl, wire, WireIsSigned}
 use Rattle.rsfq_ids.specs.Signed.{HasAllDepths}
 use Rattle.pulse_laws.proofs.Wires.{wires_are_signed}
-use Rattle.pulse_laws.specs.Wires.{IsOrder, IsWired, IsWireFrom, AreEnds}
+use Rattle.rsfq_ids.specs.Order.{IsOrder}
+use Rattle.pulse_laws.specs.Wires.{IsWired, IsWireFrom, AreEnds}
 use Rattle.pulse_laws.proofs.Computed.{some, wire_set_up}
 
 abbrev at_of : Reader → ℕ
@@ -115,8 +116,12 @@ module _ (high : ℤ) where
       no_fanout net first second one two other (inr (p, r, n)) (inr (q, s, m)) = other (omega arith)
 
   ordered : IsOrder it.flat (0 ∷ [])
-  ordered = record { each = each; after = λ place cell before at reads. absurd (no_reads_from cell before reads) }
+  ordered = record { cells = cells; each = each; once = omega arith; after = λ place cell before at reads. absurd (no_reads_from cell before reads) }
     where
+      cells : (k d : ℕ) → k < 1 → slice_index_or (0 ∷ []) k d < 1
+      cells zero d l = omega arith
+      cells (suc k) d l = absurd (omega arith)
+
       each : (cell : ℕ) → cell < 1 → Contains (0 ∷ []) cell
       each zero l = (0, omega arith, refl)
       each (suc cell) l = absurd (omega arith)

@@ -21,13 +21,9 @@ use Rattle.rsfq_ids.specs.Path.{IsPath, BeginsAtPort, HasDepth}
 use Rattle.rsfq_ids.specs.Offence.{ReadsFrom, OffenceExists, HasNoWindow}
 use Rattle.rsfq_ids.specs.Numbering.{IsRanked}
 use Rattle.rsfq_ids.specs.WellFormed.{IsFlat}
+use Rattle.rsfq_ids.specs.Order.{IsOrder}
 use Rattle.rsfq_ids.specs.Ready.{IsSetUp}
 use Rattle.rsfq_ids.specs.Signed.{HasAllDepths, IsSigned}
-
--- An order of the cells: each cell stands in it, and each place behind the places of the cells that its cell reads from.
-pub record IsOrder (flat : Flat) (order : List CellId) : Type 0 where
-  pub each : (cell : CellId) → cell < length flat.cells → Contains order cell
-  pub after : (place : ℕ) (cell before : CellId) → slice_get order place ≡ Some cell → ReadsFrom flat cell before → Contains (take place order) before
 
 -- A well-formed design of JTLs alone, without dead time, whose clock nothing reads, and no net of which has two readers.
 pub record IsWired (design : Design) : Type 0 where

@@ -13,7 +13,7 @@ use Rattle.rsfq_ids.specs.Path.{IsPath, HasDepth}
 use Rattle.rsfq_ids.specs.Value.{value_of}
 use Rattle.rsfq_ids.specs.Design.{Design}
 
--- What a cell makes of its inputs so many entries before word 0: a gate whose depth is less has no such entry, and gives nothing. Of gates that are not covered it is left out.
+-- What a cell makes of its inputs so many entries before word 0: a gate whose depth is less has no such entry, and gives nothing. Nor does a gate that is not covered.
 abbrev pub FillMade : Bool → Design → Bool → ℕ → CellRow → ℕ → ℕ → List Bool → Bool → Type 0
 FillMade true design true early row cell out bits value = (depth : ℕ) × HasDepth design (reader.Pin cell 0) (pos depth) × (value ≡ (not (nat_lt depth early) && truth_at row out bits))
 FillMade true design false early row cell out bits value = value ≡ false

@@ -11,3 +11,5 @@ pub mod Numbering
 pub mod Ready
 pub mod Filling
 pub mod Signed
+pub mod Order
+pub mod Formula

@@ -120,7 +120,7 @@ strobe_at bench strobe n = strobe_time strobe (tick_at bench) n
 abbrev pub IsStepsApart : ℤ → ℕ → ℤ → ℕ → ℤ → Type 0
 IsStepsApart steps p pulse n against = (against <ℤ pulse) ↔ (pos n <ℤ (pos p +ℤ steps))
 
--- The steps of a path to a pin: how many clock pulses of the gate, or strobes of the output, a pulse lies behind that of its own number.
+-- The steps of a path to a pin: pulse p of the path is later than clock pulse or strobe n exactly where n < p + steps, whatever the delays. So the one of number p + steps is the first that reads it.
 abbrev pub HasStepsAt : Design → List PathArc → PinId → Reader → ℤ → Type 0
 HasStepsAt design arcs pin (reader.Pin gate at) steps = (clock_path : List PathArc) × IsClockPath design gate clock_path × ((pulse clock : PathPick) →
     IsPick design pulse → pulse.arcs ≡ arcs → pulse.ends ≡ pin → IsPick design clock → clock.arcs ≡ clock_path → Agree pulse clock →

@@ -267,6 +267,21 @@ impl Id for Lit {
     }
 }
 
+impl Lit {
+    ghost use Rattle.rsfq_ids.specs.Formula.{opposite};
+
+    /// The other literal of the same variable, which is true exactly where this one is false.
+    pub fn opposite(self) -> Lit
+        ensures { result ≡ opposite self }
+    {
+        if self.0 % 2 == 0 {
+            Lit(self.0 + 1)
+        } else {
+            Lit(self.0 - 1)
+        }
+    }
+}
+
 /// A clause of a formula or a step of a proof.
 #[derive(Clone, Copy, Debug, PartialEq, Eq, PartialOrd, Ord)]
 pub struct ClauseId(u32);

@@ -7,3 +7,4 @@ pub mod list;
 pub mod name;
 pub mod offence;
 pub mod table;
+pub mod table_fault;

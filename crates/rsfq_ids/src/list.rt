@@ -71,6 +71,18 @@ impl<T: Drop> List<T> {
         }
     }
 
+    /// Adds the items of another list at the end, all or none. After a refusal the list is as it was, and the items are dropped.
+    pub fn append(&mut self, more: List<T>) -> Result<(), NoMemory>
+        ensures ok { OnOk result (self.new ≡ self.old ++ more) }
+        ensures err { OnErr result (self.new ≡ self.old) }
+    {
+        let mut items = more.items;
+        match self.items.append(&mut items) {
+            Ok(()) => Ok(()),
+            Err(_) => Err(NoMemory),
+        }
+    }
+
     /// The item at a place, and `None` exactly where the place is not below the length.
     pub fn get(&self, place: usize) -> Option<&T>
         ensures { option_copied result ≡ slice_get self.now place }

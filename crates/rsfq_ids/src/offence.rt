@@ -99,7 +99,7 @@ pub enum Offence {
         pulse: PathPick,
         against: Against,
     },
-    /// A pulse of word 1 comes not later than clock pulse 0 or strobe 0.
+    /// A pulse of number 1 comes not later than clock pulse 0 or strobe 0.
     Ahead {
         pin: PinId,
         pulse: PathPick,

@@ -18,7 +18,8 @@ use Rattle.rsfq_ids.specs.Path.{HasDepth, IsPath}
 use Rattle.rsfq_ids.specs.Offence.{HasNoWindow}
 use Rattle.rsfq_ids.specs.Ready.{IsSetUp}
 use Rattle.rsfq_ids.specs.Signed.{HasAllDepths}
-use Rattle.pulse_laws.specs.Wires.{IsWired, IsOrder, IsWireFrom, AreEnds, depths_of, WiresAreSigned}
+use Rattle.rsfq_ids.specs.Order.{IsOrder}
+use Rattle.pulse_laws.specs.Wires.{IsWired, IsWireFrom, AreEnds, depths_of, WiresAreSigned}
 use Rattle.pulse_laws.specs.Statements.{OrderIsFree}
 use Rattle.wire_form.specs.declared.netlist.WireModule.{WireModule}
 use Rattle.wire_form.specs.Wires.{IsTimeable}
@@ -77,10 +78,6 @@ no_dead_time times top cell row of = row_of_cell (slice_get (timed_design times 
 wired : (design : Design) (order : List ℕ) → IsTimeable design order → ((cell : ℕ) (row : CellRow) → IsOf design cell row → row.dead ≡ pos 0) → IsWired design
 wired design order timeable no_dead = record { set_up = timeable.set_up; jtls = timeable.jtls; no_dead_time = no_dead; clock_unread = timeable.clock; fanout = timeable.fanout }
 
--- its order of the cells
-ordered : (design : Design) (order : List ℕ) → IsTimeable design order → IsOrder design.flat order
-ordered design order timeable = record { each = timeable.ordered.each; after = timeable.ordered.after }
-
 -- an output with its depth and its input
 abbrev end_of : WireDepth → ℕ × ℕ × ℕ
 end_of line = (line.output, line.depth, line.source)
@@ -132,7 +129,7 @@ module _ (design : Design) (order : List ℕ) (lines : List WireDepth) (timeable
 
   pub every_run_shows : WiresAreSigned → OrderIsFree → ((cell : ℕ) (row : CellRow) → IsOf design cell row → row.dead ≡ pos 0) → HasNoWindow design → EveryRunShows design lines
   every_run_shows wires_are_signed order_is_free no_dead no_window run words any =
-      let signed = wires_are_signed design order (map end_of lines) (wired design order timeable no_dead) (ordered design order timeable) no_window all_depths are_ends in
+      let signed = wires_are_signed design order (map end_of lines) (wired design order timeable no_dead) timeable.ordered no_window all_depths are_ends in
       let kept = signed.runs (record run { pulses = any.ordered }) words any.is_run in
       let free = order_is_free design run any in
       let shows : (line : WireDepth) → Contains lines line → ShowsInput design run line =

@@ -15,8 +15,8 @@ use Rattle.std.proofs.lemmas.Str.{IsUtf8-from_is_utf8}
 use Rattle.std.specs.Str.{all_ascii_digits}
 use Rattle.std.specs.Str.Parse.{IsNumeral, digits_value}
 use Rattle.std.proofs.lemmas.Str.Parse.{IsNumeralModel, numerals_by_value, tells_all_ascii_digits}
-use Rattle.table_fields.specs.declared.table_fault.TableWhy.{TableWhy}
-use Rattle.table_fields.specs.declared.table_fault.TableWhy.TheVariants.{Number, OutOfRange, Utf8}
+use Rattle.rsfq_ids.specs.declared.table_fault.TableWhy.{TableWhy}
+use Rattle.rsfq_ids.specs.declared.table_fault.TableWhy.TheVariants.{Number, OutOfRange, Utf8}
 use Rattle.table_fields.specs.Records.{are_fields, field, text_fault, first_of, is_empty, is_in_range, is_number, time_fault, unless}
 
 pub false_from : (b : Bool) → ¬ (b ≡ true) → b ≡ false

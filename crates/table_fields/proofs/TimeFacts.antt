@@ -3,7 +3,7 @@ use Rattle.std.proofs.Common.{◌≡◌, ℕ, ◌≤◌, ℤ, pos, ◌≤ℤ◌,
 use Rattle.std.specs.Prelude.{nat_le}
 use Rattle.std.specs.Str.Parse.{digits_value}
 use Rattle.std.proofs.lemmas.Int.{ints}
-use Rattle.table_fields.specs.declared.table_fault.TableWhy.TheVariants.{Interval}
+use Rattle.rsfq_ids.specs.declared.table_fault.TableWhy.TheVariants.{Interval}
 use Rattle.rsfq_ids.specs.Time.{IsWithin}
 use Rattle.rsfq_ids.specs.WellFormed.{IsTime}
 use Rattle.table_fields.specs.Records.{is_in_range, time_fault, time_of, unless}

@@ -7,7 +7,7 @@ ghost use Rattle.table_fields.specs.Records.{are_fields, count_fault, empty_faul
 
 use crate::numbers::{NumberRead, read_number};
 use crate::records::field_at;
-use crate::table_fault::TableWhy;
+use rsfq_ids::table_fault::TableWhy;
 use csv::ByteRecord;
 
 /// The greatest time of a table, in femtoseconds.
@@ -115,7 +115,7 @@ mod tests {
     use crate::name_table::NameTable;
     use crate::names::is_plain_name;
     use crate::records::read_records;
-    use crate::table_fault::TableWhy;
+    use rsfq_ids::table_fault::TableWhy;
     use std::test::Fail;
 
     #[test]

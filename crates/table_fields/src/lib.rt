@@ -6,4 +6,3 @@ pub mod name_table;
 pub mod names;
 mod numbers;
 pub mod records;
-pub mod table_fault;

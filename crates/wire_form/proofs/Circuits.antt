@@ -18,7 +18,7 @@ use Rattle.wire_form.specs.declared.netlist.WireModule.{WireModule}
 use Rattle.wire_form.specs.Names.{clock_name, port_names, input_names, output_names, read_names, driven_names, driving_names, reading_names}
 use Rattle.wire_form.specs.Checks.{FitsPorts, FitsDrivers, FitsReaders}
 use Rattle.wire_form.specs.Circuit.{place_of, cell_of, clock_of, wire_circuit}
-use Rattle.wire_form.specs.Wires.{IsCellOrder}
+use Rattle.rsfq_ids.specs.Order.{IsOrder}
 use Rattle.wire_form.proofs.Distinct.{contains_here, contains_there, contains_cons, contains_none, distinct_apart}
 use Rattle.wire_form.proofs.Lookups.{placed, place_is, one_place, got_contained, contained_got, got_none, got_first, got_rest, zip_got, zip_long}
 use Rattle.wire_form.proofs.Nets.{Drives, Wants, PinWants, nets_named, pins_named}

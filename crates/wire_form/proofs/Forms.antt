@@ -16,7 +16,7 @@ use Rattle.wire_form.specs.Names.{clock_name, port_names, input_names, output_na
 use Rattle.wire_form.specs.Checks.{FitsPorts, FitsInstances, FitsDrivers, FitsReaders, FitsAll}
 use Rattle.wire_form.specs.Circuit.{place_of, wire_circuit}
 use Rattle.wire_form.specs.Form.{IsForm, IsRing}
-use Rattle.wire_form.specs.Wires.{IsCellOrder}
+use Rattle.rsfq_ids.specs.Order.{IsOrder}
 use Rattle.wire_form.proofs.Distinct.{contains_here, contains_there, contains_cons, contains_none, distinct_append, distinct_left, distinct_right, distinct_apart, distinct_head, distinct_tail, distinct_cons}
 use Rattle.wire_form.proofs.Lookups.{placed, place_is, got_contained, contained_got, zip_got, zip_long}
 use Rattle.wire_form.proofs.Nets.{Drives, Wants, PinWants, nets_named, pins_named}

@@ -35,7 +35,8 @@ use Rattle.wire_form.specs.Names.{clock_name, port_names, input_names, output_na
 use Rattle.wire_form.specs.Checks.{FitsPorts, FitsDrivers, FitsReaders}
 use Rattle.wire_form.specs.Circuit.{place_of, cell_of, input_driver, cell_driver, cell_pin, output_pin, clock_of, wire_circuit, jtl_row, jtl_table, use_of, wire_bench_of, wire_design}
 use Rattle.wire_form.specs.Form.{IsForm}
-use Rattle.wire_form.specs.Wires.{AreWires, IsTimeable, IsCellOrder}
+use Rattle.rsfq_ids.specs.Order.{IsOrder}
+use Rattle.wire_form.specs.Wires.{AreWires, IsTimeable}
 use Rattle.wire_form.proofs.Distinct.{contains_here, contains_cons, contains_none, distinct_cons, distinct_apart}
 use Rattle.wire_form.proofs.Lookups.{placed, place_is, one_place, got_contained, contained_got, get_first, get_rest, got_first, zip_got, zip_long}
 use Rattle.wire_form.proofs.Nets.{Drives, Wants, PinWants, nets_named, pins_named}
@@ -231,5 +232,5 @@ timeable wires period low high w in_period in_low in_high in_order = record {
   jtls = all_jtls wires.«module» w.form period low high in_period in_low in_high in_order;
   clock = clock_free wires.«module» w.form period low high in_period in_low in_high in_order;
   fanout = one_reader wires.«module» w.form period low high in_period in_low in_high in_order;
-  ordered = subst (λ (flat : Flat). IsCellOrder flat wires.order) w.circuit w.ordered;
+  ordered = subst (λ (flat : Flat). IsOrder flat wires.order) w.circuit w.ordered;
 }

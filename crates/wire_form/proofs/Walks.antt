@@ -11,7 +11,7 @@ use Rattle.rsfq_ids.specs.Offence.{ReadsFrom}
 use Rattle.wire_form.specs.declared.netlist.Jtl.{Jtl}
 use Rattle.wire_form.specs.declared.netlist.WireModule.{WireModule}
 use Rattle.wire_form.specs.Lists.{texts}
-use Rattle.wire_form.specs.Wires.{IsCellOrder}
+use Rattle.rsfq_ids.specs.Order.{IsOrder}
 use Rattle.wire_form.specs.Names.{input_names, output_names, read_names, driven_names, driving_names, reading_names}
 use Rattle.wire_form.specs.Checks.{FitsDrivers, FitsReaders, HasNoRing}
 use Rattle.wire_form.specs.Circuit.{wire_circuit, place_of, cell_of}
@@ -220,7 +220,7 @@ all_seen (true ∷ seen) e zero l = refl
 all_seen (true ∷ seen) e (suc c) l = all_seen seen (let f : 0 + unseen seen ≡ 0 = e in omega arith) c (omega arith)
 all_seen (false ∷ seen) e c l = absurd (let f : 1 + unseen seen ≡ 0 = e in omega arith)
 
-pub order_of : (top : WireModule) → FitsDrivers top → FitsReaders top → (seen : List Bool) (order : List ℕ) → IsWalk top seen order → length top.jtls ≤ length order → IsCellOrder (wire_circuit top) order
+pub order_of : (top : WireModule) → FitsDrivers top → FitsReaders top → (seen : List Bool) (order : List ℕ) → IsWalk top seen order → length top.jtls ≤ length order → IsOrder (wire_circuit top) order
 order_of top d r seen order w le = record {
   cells = λ k dd l. let inside = walked_within top seen order w (get_or order k dd) (Contains-get_or order k dd l) in let n = long in omega arith;
   each = λ cell lt. w.seen_in cell (all_seen seen (let c = w.count in omega arith) cell (let n = long in let f = w.flags in omega arith));

@@ -13,6 +13,7 @@ use Rattle.rsfq_ids.specs.declared.offence.Offence.TheVariants as offence
 use Rattle.rsfq_ids.specs.Design.{Design}
 use Rattle.rsfq_ids.specs.Circuit.{IsDrivenBy, Reads, IsOf}
 use Rattle.rsfq_ids.specs.Offence.{ReadsFrom, OffenceExists}
+use Rattle.rsfq_ids.specs.Order.{IsOrder}
 use Rattle.rsfq_ids.specs.Ready.{IsSetUp}
 use Rattle.wire_form.specs.declared.netlist.WireModule.{WireModule}
 use Rattle.wire_form.specs.declared.netlist.Wires.{Wires}
@@ -20,19 +21,12 @@ use Rattle.wire_form.specs.Spells.{Spells}
 use Rattle.wire_form.specs.Form.{IsForm}
 use Rattle.wire_form.specs.Circuit.{wire_circuit, clock_of}
 
--- An order of the cells: each cell stands in it, none twice, and each after the cell that it reads from.
-pub record IsCellOrder (flat : Flat) (order : List CellId) : Type 0 where
-  pub cells : All (λ cell. cell < length flat.cells) order
-  pub each : (cell : CellId) → cell < length flat.cells → Contains order cell
-  pub once : length order ≤ length flat.cells
-  pub after : (place : ℕ) (cell before : CellId) → slice_get order place ≡ Some cell → ReadsFrom flat cell before → Contains (take place order) before
-
 -- What was read is of the form, and its parts belong together.
 pub record AreWires (wires : Wires) : Type 0 where
   pub form : IsForm wires.«module»
   pub circuit : wires.flat ≡ wire_circuit wires.«module»
   pub clock : wires.clock ≡ clock_of wires.«module»
-  pub ordered : IsCellOrder wires.flat wires.order
+  pub ordered : IsOrder wires.flat wires.order
 
 -- The text spells the module that was read, and no other.
 pub record IsReadAs (text : List ℕ) (wires : Wires) : Type 0 where
@@ -46,4 +40,4 @@ pub record IsTimeable (design : Design) (order : List CellId) : Type 0 where
   pub jtls : (cell : CellId) (row : CellRow) → IsOf design cell row → row.kind ≡ kind.Jtl
   pub clock : (net : NetId) (by : Reader) → IsDrivenBy design.flat net (driver.Port design.bench.clock) → ¬ Reads design.flat by net
   pub fanout : (net : NetId) (first second : PinId) → ¬ OffenceExists design (offence.Fanout net first second)
-  pub ordered : IsCellOrder design.flat order
+  pub ordered : IsOrder design.flat order

@@ -9,7 +9,7 @@ ghost use Rattle.wire_form.specs.Walking.{reach_seen, reach_order, IsWalk, IsSer
 ghost use Rattle.wire_form.specs.declared.fault.FormFault.TheVariants.{NotOfForm};
 ghost use Rattle.wire_form.specs.Circuit.{wire_circuit};
 ghost use Rattle.wire_form.specs.Spells.{IsAtMost};
-ghost use Rattle.wire_form.specs.Wires.{IsCellOrder};
+ghost use Rattle.rsfq_ids.specs.Order.{IsOrder};
 
 use crate::fault::FormFault;
 use crate::lists::input_list;
@@ -181,7 +181,7 @@ pub fn find_order(
     requires drivers { FitsDrivers top.now }
     requires readers { FitsReaders top.now }
     requires pins { pins.now ≡ reading_names top.now }
-    ensures ordered { IfOk result (λ order. IsCellOrder (wire_circuit top.now) order) }
+    ensures ordered { IfOk result (λ order. IsOrder (wire_circuit top.now) order) }
     ensures no_ring { OnOk result (HasNoRing top.now) }
     ensures ring { IfErr result (λ e. e ≡ NotOfForm → ¬ HasNoRing top.now) }
 {

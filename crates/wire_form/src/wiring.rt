@@ -7,7 +7,8 @@ ghost use Rattle.wire_form.specs.Circuit.{wire_circuit, place_of};
 ghost use Rattle.wire_form.specs.Form.{IsForm};
 ghost use Rattle.wire_form.specs.Names.{clock_name};
 ghost use Rattle.wire_form.specs.Spells.{IsAtMost};
-ghost use Rattle.wire_form.specs.Wires.{AreWires, IsCellOrder};
+ghost use Rattle.rsfq_ids.specs.Order.{IsOrder};
+ghost use Rattle.wire_form.specs.Wires.{AreWires};
 
 use crate::build::build;
 use crate::conditions::{CLOCK, check_drivers, check_instances, check_ports, check_readers};
@@ -23,7 +24,7 @@ use std::alloc::Global;
 fn wire(alloc: Global, top: &WireModule) -> Result<(Flat, List<CellId>), FormFault>
     requires { IsAtMost (2 ^ 24) top.now }
     ensures flat { IfOk result (λ made. made.0 ≡ wire_circuit top.now) }
-    ensures ordered { IfOk result (λ made. IsCellOrder (wire_circuit top.now) made.1) }
+    ensures ordered { IfOk result (λ made. IsOrder (wire_circuit top.now) made.1) }
     ensures fits { OnOk result (FitsAll top.now) }
     ensures unfit { IfErr result (λ e. e ≡ NotOfForm → ¬ FitsAll top.now) }
 {

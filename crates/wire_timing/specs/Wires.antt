@@ -20,6 +20,7 @@ use Rattle.rsfq_ids.specs.Circuit.{IsDrivenBy, IsPin, Reads, IsOf}
 use Rattle.rsfq_ids.specs.Bench.{IsUsed, is_data}
 use Rattle.rsfq_ids.specs.Path.{IsPathTo, BeginsAtPort, HasDepth}
 use Rattle.rsfq_ids.specs.Offence.{ReadsFrom}
+use Rattle.rsfq_ids.specs.Order.{IsOrder}
 use Rattle.rsfq_ids.specs.Ready.{IsSetUp}
 use Rattle.wire_timing.specs.declared.WireDepth.{WireDepth}
 
@@ -35,19 +36,12 @@ HasOnlyJtls design = (cell : CellId) (row : CellRow) → IsOf design cell row �
 abbrev pub LeavesClockUnread : Design → Type 0
 LeavesClockUnread design = (net : NetId) (by : Reader) → IsDrivenBy design.flat net (driver.Port design.bench.clock) → ¬ Reads design.flat by net
 
--- An order of the cells: each cell once, and each after the cells that it reads from.
-pub record IsCellOrder (flat : Flat) (order : List CellId) : Type 0 where
-  pub cells : All (λ cell. cell < length flat.cells) order
-  pub each : (cell : CellId) → cell < length flat.cells → Contains order cell
-  pub once : length order ≤ length flat.cells
-  pub after : (place : ℕ) (cell before : CellId) → slice_get order place ≡ Some cell → ReadsFrom flat cell before → Contains (take place order) before
-
 -- A well-formed design of JTLs with an unread clock, and an order of its cells.
 pub record AreWires (design : Design) (order : List CellId) : Type 0 where
   pub set_up : IsSetUp design
   pub jtls : HasOnlyJtls design
   pub clock : LeavesClockUnread design
-  pub ordered : IsCellOrder design.flat order
+  pub ordered : IsOrder design.flat order
 
 -- the output bits in port order
 abbrev pub outputs_of : Flat → List PortId

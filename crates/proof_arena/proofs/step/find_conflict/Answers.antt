@@ -1,6 +1,6 @@
 use Rattle.std.proofs.Common.{◌∙◌, ◌<◌, ◌*◌, sym, arith}
 use Rattle.proof_arena.specs.Log.{clauses_of}
-use Rattle.proof_arena.specs.Formula.{opposite}
+use Rattle.rsfq_ids.specs.Formula.{opposite}
 use Rattle.proof_arena.specs.Table.{falses_of}
 use Rattle.proof_arena.proofs.Marked.{opposite-lt}
 use Rattle.proof_arena.proofs.Readings.{hint_past, unit_over}

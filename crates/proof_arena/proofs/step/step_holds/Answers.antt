@@ -1,6 +1,6 @@
 use Rattle.std.proofs.Common.{◌≡◌, ◌∙◌, Bool, ℕ, sym, ap, subst, true, false}
 use Rattle.std.specs.List.{list_any}
-use Rattle.proof_arena.specs.Formula.{opposite, IsOver}
+use Rattle.rsfq_ids.specs.Formula.{opposite, IsOver}
 use Rattle.proof_arena.specs.Step.{is_tautology, ends_in_conflict}
 use Rattle.proof_arena.specs.Log.{clauses_of}
 use Rattle.proof_arena.proofs.Readings.{denied, not_over, tautologous, judged}

@@ -2,7 +2,7 @@ use Rattle.std.proofs.Common.{subst}
 use Rattle.std.specs.Prelude.{◌↔◌, IsTrue}
 use Rattle.proof_arena.specs.Log.{Log, HasEnded}
 use Rattle.std.proofs.Common.{map}
-use Rattle.proof_arena.specs.Formula.{HasSolution}
+use Rattle.rsfq_ids.specs.Formula.{HasSolution}
 use Rattle.proof_arena.specs.Held.{step_of}
 use Rattle.proof_arena.proofs.Steps.{ended_by}
 use Rattle.proof_arena.proofs.Sound.{ended_refutes}

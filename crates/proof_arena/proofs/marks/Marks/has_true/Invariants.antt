@@ -1,6 +1,6 @@
 use Rattle.std.proofs.Common.{◌≡◌, false, take}
 use Rattle.std.specs.List.{list_any}
-use Rattle.proof_arena.specs.Formula.{opposite}
+use Rattle.rsfq_ids.specs.Formula.{opposite}
 use Rattle.proof_arena.specs.Table.{falses_of}
 use Rattle.proof_arena.proofs.marks.Marks.has_true.Given as goal
 

@@ -1,8 +1,8 @@
 //! What is wrong with the bytes of a cell table or a timing table, and in which row.
-ghost use Rattle.table_fields.specs.declared.table_fault.TableWhy.TheVariants.{Memory};
+ghost use Rattle.rsfq_ids.specs.declared.table_fault.TableWhy.TheVariants.{Memory};
 ghost use Rattle.std.specs.Prelude.{◌≡◌};
 
-use rsfq_ids::list::NoMemory;
+use crate::list::NoMemory;
 use thiserror::Error;
 
 /// The first cause for which a row is none of its table. Columns count from 0.

@@ -1,0 +1,13 @@
+//! The instance of a call that has as many pins as a gate has.
+
+/// Calls a function of `PINS` at the number of pins, which is 1 to 3.
+#[macro_export]
+macro_rules! by_pins {
+    ($pins:expr, $call:ident ( $($argument:expr),* $(,)? )) => {
+        match $pins {
+            1 => $call::<1>($($argument),*),
+            2 => $call::<2>($($argument),*),
+            _ => $call::<3>($($argument),*),
+        }
+    };
+}

@@ -1,0 +1,160 @@
+//! A truth table of one to four pins.
+
+ghost use Rattle.std.specs.Prelude.{◌≡◌, ◌++◌, ◌<◌, ◌≤◌, ◌^◌, ◌==◌, ℕ, Bool, IsTrue, ◌↔◌, map, OnOk, OnErr, IfOk};
+ghost use Rattle.std.specs.Int.{bit_at};
+ghost use Rattle.cell_truth.specs.Clause.{all_hold, is_true, written};
+ghost use Rattle.cell_truth.specs.Truth.{digit, row_clause, signed, truth_clauses, truth_value};
+
+use crate::clause::{add_clause, negate};
+use rsfq_ids::id::Lit;
+use rsfq_ids::list::{List, NoMemory};
+use std::alloc::Global;
+use std::marker::Model;
+
+/// The truth table of a gate's output: digit `r` is bit `r`, and the first pin is bit 0 of `r`.
+#[derive(Clone, Copy, Debug)]
+pub struct Truth<const PINS: usize> {
+    rows: u16,
+}
+
+impl<const PINS: usize> Model for Truth<PINS> {
+    ghost use Rattle.std.specs.Prelude.{ℕ};
+
+    ghost Value = { ℕ };
+
+    ghost view = { λ t. t.rows };
+
+    ghost inverse = { λ n. record { rows = n } };
+}
+
+fn signed(negative: bool, literal: Lit) -> Lit
+    ensures { result ≡ signed negative literal }
+{
+    if negative { negate(literal) } else { literal }
+}
+
+fn bit(row: u16, pin: usize) -> bool
+    requires { pin < 16 }
+    ensures { result ≡ (bit_at row pin == 1) }
+{
+    (row >> pin) % 2 == 1
+}
+
+fn row_count(pins: usize) -> u16
+    requires { pins ≤ 4 }
+    ensures { result ≡ 2 ^ pins }
+{
+    1 << pins
+}
+
+impl<const PINS: usize> Truth<PINS> {
+    /// The truth table with these digits.
+    pub fn new(rows: u16) -> Self
+        ensures { result ≡ rows }
+    {
+        Truth { rows }
+    }
+
+    /// The digit of a row.
+    pub fn at(&self, row: u16) -> bool
+        requires pins { PINS ≤ 4 }
+        requires row { row < 2 ^ PINS }
+        ensures { result ≡ digit self.now row }
+    {
+        bit(self.rows, row as usize)
+    }
+
+    fn add_row(
+        &self,
+        alloc: Global,
+        row: u16,
+        inputs: &[Lit; PINS],
+        output: Lit,
+        into: &mut List<List<Lit>>,
+    ) -> Result<(), NoMemory>
+        requires pins { PINS ≤ 4 }
+        requires row { row < 2 ^ PINS }
+        ensures added { OnOk result (into.new ≡ into.old ++ written (row_clause self.now inputs.now output row)) }
+        ensures kept { OnErr result (into.new ≡ into.old) }
+    {
+        let mut clause = List::new(alloc);
+        for pin in 0..PINS {
+            clause.push(signed(bit(row, pin), inputs[pin]))?;
+        }
+        clause.push(signed(!self.at(row), output))?;
+        add_clause(alloc, clause.as_slice(), into)
+    }
+
+    /// Adds the clauses that hold together exactly where the output's value is the table's at the inputs' values:
+    /// one for each row, in order, as a formula holds clauses. After a refusal the list is unchanged.
+    pub fn clauses(
+        &self,
+        alloc: Global,
+        inputs: &[Lit; PINS],
+        output: Lit,
+        into: &mut List<List<Lit>>,
+    ) -> Result<(), NoMemory>
+        requires { PINS ≤ 4 }
+        ensures added { OnOk result (into.new ≡ into.old ++ truth_clauses self.now PINS inputs.now output) }
+        ensures meaning { OnOk result ((values : ℕ → Bool) → IsTrue (all_hold values into.new) ↔ (IsTrue (all_hold values into.old) × (is_true values output ≡ truth_value values self.now inputs.now))) }
+        ensures kept { OnErr result (into.new ≡ into.old) }
+    {
+        let mut made = List::new(alloc);
+        for row in 0..row_count(PINS) {
+            self.add_row(alloc, row, inputs, output, &mut made)?;
+        }
+        into.append(made)
+    }
+}
+
+#[cfg(test)]
+mod tests {
+    use super::*;
+    use crate::by_pins;
+    use rsfq_ids::id::Id;
+    use rsfq_ids::list::List;
+    use std::test::Fail;
+
+    fn digit_at<const PINS: usize>(rows: u16, row: u16) -> bool
+        requires pins { PINS ≤ 4 }
+        requires row { row < 2 ^ PINS }
+        ensures { result ≡ digit rows row }
+    {
+        let table: Truth<PINS> = Truth::new(rows);
+        table.at(row)
+    }
+
+    #[test]
+    fn an_and_has_its_clauses(rt: HostRuntime) -> Result<(), Fail> {
+        let table: Truth<2> = Truth::new(0b1000);
+        let mut clauses = List::new(rt.alloc());
+        let done = table.clauses(
+            rt.alloc(),
+            &[Lit::of(0), Lit::of(2)],
+            Lit::of(4),
+            &mut clauses,
+        );
+        assert!(rt; done.is_ok());
+        let wanted = [[0, 2, 5], [1, 2, 5], [0, 3, 5], [1, 3, 4]];
+        assert_eq!(rt; clauses.len(), 4);
+        for (place, row) in wanted.iter().enumerate() {
+            let Some(clause) = clauses.get(place) else {
+                panic!(rt; "no clause");
+            };
+            assert_eq!(rt; clause.len(), 3);
+            for (at, literal) in clause.as_slice().iter().enumerate() {
+                assert!(rt; at < 3);
+                assert_eq!(rt; literal.index(), row[at]);
+            }
+        }
+        Ok(())
+    }
+
+    #[test]
+    fn digits_are_those_of_the_table(rt: HostRuntime) -> Result<(), Fail> {
+        assert!(rt; by_pins!(1, digit_at(0b10, 1)));
+        assert!(rt; !by_pins!(2, digit_at(0b0110, 0)));
+        assert!(rt; by_pins!(3, digit_at(0b1110_1010, 1)));
+        Ok(())
+    }
+}
