@@ -1,16 +1,16 @@
 -- Fronts, closings and lines by places of the text.
 use Rattle.std.proofs.Common.{◌≡◌, ℕ, zero, suc, ◌+◌, ◌-◌, ◌≤◌, ◌<◌, Bool, true, false, List, [], ◌∷◌, length, Option, Some, None, refl, sym, ap, ◌∙◌, arith, inl, inr, take, drop, get_or, drop-cons, add-one, length-drop, ◌==◌, codes}
-use Rattle.std.specs.Prelude.{option_map, slice_index}
+use Rattle.std.specs.Prelude.{◌&&◌, option_map, slice_index}
 use Rattle.std.specs.List.{prefix_len}
 use Rattle.std.proofs.lemmas.Bool.{eqb-true, eq-eqb}
 use Rattle.std.proofs.lemmas.List.Sums.{prefix_len_is}
 use Rattle.std.proofs.Math.Seq.{take-length}
 use Rattle.memchr.specs.Find.{FindsNeedle, IsFirstByte, OccursAt, is_byte}
 use Rattle.verilog_lex.specs.Bytes.{begins, is_in_line}
-use Rattle.verilog_lex.specs.Scan.{quoted, unquoted, is_close, front, back, close}
+use Rattle.verilog_lex.specs.Scan.{quoted, unquoted, counts, is_close, front, back, close}
 use Rattle.verilog_lex.specs.declared.closing.Quoting.{Quoting}
-use Rattle.verilog_lex.specs.declared.closing.Quoting.TheVariants.{Outside}
-use Rattle.verilog_lex.proofs.Tools.{bool_cases, and_left, and_right}
+use Rattle.verilog_lex.specs.declared.closing.Quoting.TheVariants.{Outside, Inside, Behind}
+use Rattle.verilog_lex.proofs.Tools.{bool_cases, and_left, and_right, or_left, or_right}
 
 pub split_at : (xs : List ℕ) (i : ℕ) → i < length xs → drop i xs ≡ get_or xs i 0 ∷ drop (i + 1) xs
 split_at xs i lt = rw (add-one, drop-cons xs i 0) refl
@@ -146,3 +146,75 @@ pub goes_on : (text : List ℕ) (i : ℕ) (w v : Quoting) → i < length text �
     → option_map (λ n. i + n) (close 42 41 quoted w (drop i text)) ≡ option_map (λ n. i + 1 + n) (close 42 41 quoted v (drop (i + 1) text))
 goes_on text i w v lt e q =
     close_more 42 41 quoted w text i lt e ∙ ap (λ (u : Quoting). option_map (λ n. i + 1 + n) (close 42 41 quoted u (drop (i + 1) text))) (sym q)
+
+-- ---- bytes of an attribute that do not count
+
+outer_false : (a b : Bool) → b ≡ false → (a && b && true) ≡ false
+outer_false true true e = absurd cc
+outer_false true false e = refl
+outer_false false b e = refl
+
+inner_false : (a b : Bool) → (a && b && false) ≡ false
+inner_false true true = refl
+inner_false true false = refl
+inner_false false b = refl
+
+uncounted_closes : (w : Quoting) (b : ℕ) (bs : List ℕ) → counts w b ≡ false → is_close 42 41 w b bs ≡ false
+uncounted_closes Outside b bs e = outer_false (begins (λ c. c == 41) bs) (b == 42) (or_left (b == 42) _ e)
+uncounted_closes Inside b bs e = inner_false (begins (λ c. c == 41) bs) (b == 42)
+uncounted_closes Behind b bs e = absurd cc
+
+uncounted_stays : (w : Quoting) (b : ℕ) → counts w b ≡ false → quoted w b ≡ w
+uncounted_stays Outside b e = let no : (b == 34) ≡ false = or_right (b == 42) _ e in rw no refl
+uncounted_stays Inside b e =
+    let no : (b == 34) ≡ false = or_left (b == 34) _ e in
+    let other : (b == 92) ≡ false = or_right (b == 34) _ e in
+    rw (no, other) refl
+uncounted_stays Behind b e = absurd cc
+
+-- where a byte of the attribute counts, or its end, so many bytes behind: the closing is the one that is found from there
+pub passes : (w : Quoting) (text : List ℕ) (from k : ℕ) → from + k ≤ length text → ((j : ℕ) → j < k → counts w (get_or (drop from text) j 0) ≡ false)
+    → option_map (λ n. from + n) (close 42 41 quoted w (drop from text)) ≡ option_map (λ n. from + k + n) (close 42 41 quoted w (drop (from + k) text))
+passes w text from zero le none = let e : from ≡ from + 0 = omega arith in ap (λ (i : ℕ). option_map (λ n. i + n) (close 42 41 quoted w (drop i text))) e
+passes w text from (suc k) le none =
+    let lt : from < length text = omega arith in
+    let here : get_or (drop from text) 0 0 ≡ get_or text from 0 = ap (λ (l : List ℕ). get_or l 0 0) (split_at text from lt) in
+    let first : counts w (get_or text from 0) ≡ false = ap (counts w) (sym here) ∙ none 0 (omega arith) in
+    let later : (j : ℕ) → j < k → counts w (get_or (drop (from + 1) text) j 0) ≡ false = λ j l. ap (counts w) (ap (λ (t : List ℕ). get_or t (suc j) 0) (sym (split_at text from lt))) ∙ none (suc j) (omega arith) in
+    let more = goes_on text from w w lt (uncounted_closes w _ (drop (from + 1) text) first) (sym (uncounted_stays w _ first)) in
+    let sum : from + 1 + k ≡ from + suc k = omega arith in
+    more ∙ (passes w text (from + 1) k (omega arith) later ∙ ap (λ (i : ℕ). option_map (λ n. i + n) (close 42 41 quoted w (drop i text))) sum)
+
+uncounted : (w : Quoting) (xs : List ℕ) (j : ℕ) → ¬ (counts w (get_or xs j 0) ≡ true) → counts w (get_or xs j 0) ≡ false
+uncounted w xs j h = elim (bool_cases (counts w (get_or xs j 0))) [ inl e ↦ absurd (h e) | inr e ↦ e ]
+
+-- what stands from `at` on closes where what stands from `from` on does
+abbrev pub ClosesAs : List ℕ → ℕ → ℕ → Quoting → Type 0
+ClosesAs text at from w = option_map (λ n. at + n) (close 42 41 quoted Outside (drop at text)) ≡ option_map (λ n. from + n) (close 42 41 quoted w (drop from text))
+
+counted : (w : Quoting) (text : List ℕ) (at from k : ℕ) → ClosesAs text at from w → IsFirstByte (counts w) (drop from text) (Some k) → (from + k < length text) × ClosesAs text at (from + k) w
+counted w text at from k same found =
+    let high = found.0.high in
+    let lt : from + k < length text = omega (arith, length-drop from text) in
+    (lt, same ∙ passes w text from k (omega arith) (λ j l. uncounted w (drop from text) j (found.0.before j (omega arith) l)))
+
+pub attribute_goes_on : (w v : Quoting) (text : List ℕ) (at from k : ℕ) → ClosesAs text at from w → IsFirstByte (counts w) (drop from text) (Some k)
+    → is_close 42 41 w (get_or text (from + k) 0) (drop (from + k + 1) text) ≡ false → v ≡ quoted w (get_or text (from + k) 0) → (from + k + 1 ≤ length text) × ClosesAs text at (from + k + 1) v
+attribute_goes_on w v text at from k same found e q =
+    let there = counted w text at from k same found in
+    (let lt = there.0 in omega arith, there.1 ∙ goes_on text (from + k) w v there.0 e q)
+
+pub attribute_closes : (w : Quoting) (text : List ℕ) (at from k : ℕ) → ClosesAs text at from w → IsFirstByte (counts w) (drop from text) (Some k)
+    → is_close 42 41 w (get_or text (from + k) 0) (drop (from + k + 1) text) ≡ true → Some (from + k + 2) ≡ option_map (λ n. at + n) (close 42 41 quoted Outside (drop at text))
+attribute_closes w text at from k same found e =
+    let there = counted w text at from k same found in
+    let here : close 42 41 quoted w (drop (from + k) text) ≡ Some 2 = ap (close 42 41 quoted w) (split_at text (from + k) there.0) ∙ one_found 42 41 quoted w _ (drop (from + k + 1) text) e in
+    sym (there.1 ∙ ap (option_map (λ n. from + k + n)) here)
+
+pub attribute_open : (w : Quoting) (text : List ℕ) (at from : ℕ) → from ≤ length text → ClosesAs text at from w → IsFirstByte (counts w) (drop from text) None
+    → None ≡ option_map (λ n. at + n) (close 42 41 quoted Outside (drop at text))
+attribute_open w text at from le same none =
+    let k : ℕ = length text - from in
+    let all : from + k ≡ length text = omega arith in
+    let out : drop (from + k) text ≡ [] = drop_out text (from + k) (omega arith) in
+    sym (same ∙ (passes w text from k (omega arith) (λ j l. uncounted w (drop from text) j (none j (omega arith) (omega (arith, length-drop from text)))) ∙ ap (λ (l : List ℕ). option_map (λ n. from + k + n) (close 42 41 quoted w l)) out))

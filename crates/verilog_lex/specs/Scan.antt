@@ -6,7 +6,7 @@ use Rattle.verilog_lex.specs.declared.closing.Quoting.TheVariants.{Outside, Insi
 use Rattle.std.specs.Prelude.{◌&&◌, ◌||◌, true, false, ℕ, suc, Bool, cond, List, [], ◌∷◌, length, Option, Some, None, nat_le, ◌==◌, option_map}
 use Rattle.std.specs.Char.{is_ascii_digit, is_ascii_graphic}
 use Rattle.std.specs.Str.Parse.{digits_value}
-use Rattle.verilog_lex.specs.Bytes.{is_blank, is_start, is_part, is_mark, is_in_line, begins, is_reserved, is_skipped}
+use Rattle.verilog_lex.specs.Bytes.{star, quote, backslash, is_blank, is_start, is_part, is_mark, is_in_line, begins, is_reserved, is_skipped}
 use Rattle.verilog_lex.specs.Lexemes.{Lexeme, blank, line_comment, block_comment, attribute, skipped_directive, token}
 use Rattle.verilog_lex.specs.declared.token.TokenKind.{TokenKind}
 use Rattle.verilog_lex.specs.declared.token.TokenKind.TheVariants as kind
@@ -34,6 +34,12 @@ abbrev pub quoted : Quoting → ℕ → Quoting
 quoted Outside b = cond (b == 34) Inside Outside
 quoted Inside b = cond (b == 34) Outside (cond (b == 92) Behind Inside)
 quoted Behind b = Inside
+
+-- A byte that stands there counts: it may be a closing's first, or the bytes behind it may stand elsewhere.
+abbrev pub counts : Quoting → ℕ → Bool
+counts Outside b = b == star || b == quote
+counts Inside b = b == quote || b == backslash
+counts Behind b = true
 
 -- a comment has no strings
 abbrev pub unquoted : Quoting → ℕ → Quoting

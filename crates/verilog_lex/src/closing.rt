@@ -1,13 +1,15 @@
 //! The ends of comments and attributes: the only lexemes that may go on over many lines.
 //!
-//! A comment's end is searched for by `memchr`. In an attribute a closing counts only outside strings, so each byte is looked at.
+//! Both are searched for by `memchr`. In an attribute a closing counts only outside strings, so the search there stops at each star and quote
+//! outside strings, and at each quote and backslash in one.
 
 ghost use Rattle.std.specs.Prelude.{◌≡◌, ◌≤◌, ◌+◌, length, drop, option_map, ◌<◌, slice_index};
+ghost use Rattle.memchr.specs.Find.{IsFirstByte};
 ghost use Rattle.verilog_lex.specs.Bytes.{star, slash, close_paren};
-ghost use Rattle.verilog_lex.specs.Scan.{quoted, unquoted, is_close, close};
+ghost use Rattle.verilog_lex.specs.Scan.{quoted, unquoted, counts, is_close, close};
 ghost use Rattle.verilog_lex.specs.declared.closing.Quoting.TheVariants.{Outside};
 
-use memchr::memmem;
+use memchr::{memchr2, memmem};
 
 /// Where a byte of an attribute stands: outside strings, in one, or behind a backslash in one.
 #[derive(Clone, Copy, PartialEq, Eq)]
@@ -66,17 +68,37 @@ fn closes(text: &[u8], at: usize, place: Quoting) -> bool
     text[at + 1] == b')' && text[at] == b'*' && place == Quoting::Outside
 }
 
+/// The first place in the rest of an attribute whose byte counts there: it may close the attribute, or begin or end a string.
+fn first_counting(rest: &[u8], place: Quoting) -> Option<usize>
+    requires { 0 < length rest.now }
+    ensures { IsFirstByte (counts place) rest.now result }
+{
+    match place {
+        Quoting::Outside => memchr2(b'*', b'"', rest),
+        Quoting::Inside => memchr2(b'"', b'\\', rest),
+        Quoting::Behind => Some(0),
+    }
+}
+
 /// The end of an attribute whose body begins at a place, with its closing.
 pub(crate) fn attribute_end(text: &[u8], at: usize) -> Option<usize>
     requires { at ≤ length text.now }
     ensures { result ≡ option_map (λ n. at + n) (close star close_paren quoted Outside (drop at text.now)) }
 {
     let mut place = Quoting::Outside;
-    for i in at..text.len() {
-        if closes(text, i, place) {
-            return Some(i + 2);
+    let mut from = at;
+    'more: while from < text.len() {
+        match first_counting(&text[from..], place) {
+            Some(passed) => {
+                let here = from + passed;
+                if closes(text, here, place) {
+                    return Some(here + 2);
+                }
+                place = after(place, text[here]);
+                from = here + 1;
+            }
+            None => return None,
         }
-        place = after(place, text[i]);
     }
     None
 }

@@ -59,7 +59,7 @@ pub(crate) fn line_end(text: &[u8], at: usize) -> usize
     }
 }
 
-/// Whether these digits write a number of at most nine digits.
+/// Whether the value of these digits is at most 999,999,999. Leading zeros do not count.
 pub(crate) fn is_small(digits: &[u8]) -> bool
     requires { AllDigits 10 digits.now }
     ensures { result ≡ nat_le (digits_value 10 digits.now) 999999999 }

@@ -163,3 +163,118 @@ fn tells_plain_names_and_keeps_lists(rt: HostRuntime) {
     assert_eq!(rt; list.get(0), Some(&7));
     assert!(rt; list.get(1).is_none());
 }
+
+/// Bytes from 127 on stand in comments, attributes and skipped directives alone.
+#[test]
+fn knows_every_byte(rt: HostRuntime) {
+    for (text, wanted) in [
+        (b"a/*\x7f\x80\xff*/b".as_slice(), b"a b ".as_slice()),
+        (b"a//\x80\xff\nb".as_slice(), b"a b ".as_slice()),
+        (
+            b"(* \x7f\xff \"\x80*)\\\xff\xff*)\" *)b".as_slice(),
+            b"b ".as_slice(),
+        ),
+        (b"`timescale \xff\nb".as_slice(), b"b ".as_slice()),
+        (b"\\~! b".as_slice(), b"\\~! b ".as_slice()),
+    ] {
+        assert!(rt; text.len() < 2_000);
+        match lex(rt.alloc(), text) {
+            Ok(tokens) => match listed(rt.alloc(), text, tokens.as_slice()) {
+                Ok(list) => assert_eq!(rt; list.as_slice(), wanted),
+                Err(_) => assert!(rt; false, "no memory"),
+            },
+            Err(_) => assert!(rt; false, "a fault"),
+        }
+    }
+    for (text, offset, why) in [
+        (b"\x7f".as_slice(), 0, LexWhy::BadByte),
+        (b"\x80".as_slice(), 0, LexWhy::BadByte),
+        (b"a\xff".as_slice(), 1, LexWhy::BadByte),
+        (b"`\xfftimescale".as_slice(), 0, LexWhy::BadByte),
+        (b"`timescale\n\xc3\xa4".as_slice(), 11, LexWhy::BadByte),
+        (b"\\\x7f".as_slice(), 0, LexWhy::EmptyEscape),
+        (b"\\\xff".as_slice(), 0, LexWhy::EmptyEscape),
+        (b"\\a\x7f".as_slice(), 2, LexWhy::BadByte),
+        (b" \\ab\x80 ".as_slice(), 4, LexWhy::BadByte),
+        (b"(* \"\xff\\\"*)".as_slice(), 0, LexWhy::UnendedAttribute),
+    ] {
+        assert!(rt; text.len() < 2_000);
+        match lex(rt.alloc(), text) {
+            Ok(_) => assert!(rt; false, "no fault at {offset}"),
+            Err(fault) => {
+                assert_eq!(rt; fault.offset, offset);
+                assert_eq!(rt; fault.why, why);
+            }
+        }
+    }
+}
+
+/// The longest text, in bytes.
+const LONGEST: usize = 16_777_216;
+
+/// The longest text of a head, the same bytes again and again, and a tail.
+fn longest(alloc: Global, head: &[u8], body: &[u8], tail: &[u8]) -> Result<Vec<u8>, AllocError> {
+    let room = LONGEST
+        .saturating_sub(head.len())
+        .saturating_sub(tail.len());
+    let mut text = Vec::new(alloc);
+    text.extend_from_slice(head)?;
+    text.extend_from_slice(
+        body.repeat(alloc, room.checked_div(body.len()).unwrap_or(0))?
+            .as_slice(),
+    )?;
+    text.extend_from_slice(tail)?;
+    Ok(text)
+}
+
+/// Each kind of lexeme in texts of exactly 16,777,216 bytes: how many tokens, and the last one.
+#[test]
+fn reads_the_longest_texts(rt: HostRuntime) {
+    let no_token = Token {
+        kind: TokenKind::Mark,
+        start: 0,
+        end: 0,
+    };
+    let last = |kind, start| Token {
+        kind,
+        start,
+        end: 16_777_216,
+    };
+    for (head, body, tail, count, wanted) in [
+        ("", " ", "", 0, no_token),
+        ("", "\n\t", "", 0, no_token),
+        ("//", "x", "", 0, no_token),
+        ("/*", "*", "*/", 0, no_token),
+        ("/*", "/ *-", "*/", 0, no_token),
+        ("(*", "*", "*)", 0, no_token),
+        ("(* ", "\"*)\\\"abc\" ", " *)", 0, no_token),
+        ("(* ", "a=1, ", " *)", 0, no_token),
+        ("`timescale", " ", "", 0, no_token),
+        ("", "a", "", 1, last(TokenKind::Name, 0)),
+        ("\\", "~", "", 1, last(TokenKind::Escaped, 1)),
+        ("", "0", "9", 1, last(TokenKind::Number, 0)),
+        ("", " ", "module", 1, last(TokenKind::Reserved, 16_777_210)),
+        ("", "\n", ";", 1, last(TokenKind::Mark, 16_777_215)),
+    ] {
+        match longest(
+            rt.alloc(),
+            head.as_bytes(),
+            body.as_bytes(),
+            tail.as_bytes(),
+        ) {
+            Ok(text) => {
+                assert_eq!(rt; text.len(), LONGEST, "at {head}{body}{tail}");
+                match lex(rt.alloc(), text.as_slice()) {
+                    Ok(tokens) => {
+                        assert_eq!(rt; tokens.len(), count, "at {head}{body}{tail}");
+                        if count > 0 {
+                            assert_eq!(rt; tokens.get(0), Some(&wanted), "at {head}{body}{tail}");
+                        }
+                    }
+                    Err(_) => assert!(rt; false, "at {head}{body}{tail}"),
+                }
+            }
+            Err(_) => assert!(rt; false, "no memory"),
+        }
+    }
+}

@@ -1,5 +1,7 @@
 //! Tokens, and why a text is no list of them.
 
+use thiserror::Error;
+
 /// What a token is.
 #[derive(Clone, Copy, Debug, PartialEq, Eq)]
 pub enum TokenKind {
@@ -27,28 +29,36 @@ pub struct Token {
 }
 
 /// Why a text is no list of tokens.
-#[derive(Clone, Copy, Debug, PartialEq, Eq, Drop)]
+#[derive(Clone, Copy, Debug, PartialEq, Eq, Drop, Error)]
 pub enum LexWhy {
     /// A byte that no lexeme begins with, or one in an escaped name that is neither a blank nor 33 to 126.
+    #[error("bad byte")]
     BadByte,
     /// `/*` with no `*/` behind it.
+    #[error("unended comment")]
     UnendedComment,
     /// `(*` with no `*)` outside strings behind it.
+    #[error("unended attribute")]
     UnendedAttribute,
     /// A backslash with no byte of a name behind it.
+    #[error("empty escape")]
     EmptyEscape,
     /// A backtick and a name that is no skipped directive's.
+    #[error("directive")]
     Directive,
     /// A number above 999,999,999.
+    #[error("big number")]
     BigNumber,
     /// There was no memory for the tokens. It says nothing of the text.
+    #[error("out of memory")]
     Memory,
 }
 
 /// The first fault of a text: its cause and the place that counts for it, in bytes from 0.
 ///
 /// The place is the first byte of the broken lexeme, but for a bad byte in an escaped name that byte itself. At `Memory` it has no meaning.
-#[derive(Clone, Copy, Debug, PartialEq, Eq, Drop)]
+#[derive(Clone, Copy, Debug, PartialEq, Eq, Drop, Error)]
+#[error("{why} at byte {offset}")]
 pub struct LexFault {
     pub offset: u32,
     pub why: LexWhy,
