@@ -1,0 +1,24 @@
+use Rattle.std.proofs.Common.{◌≡◌, ◌∙◌, refl, sym, true, false}
+use Rattle.flat_form.proofs.PinByPin.{one_each}
+use Rattle.flat_form.proofs.Loops.{no_ring_of}
+use Rattle.flat_form.proofs.Timeable.{unread_clock}
+use Rattle.flat_form.proofs.wires.find_wires.Goals as goal
+
+pub returns-in_default-clause-refused : goal.returns-in_default-clause-refused
+returns-in_default-clause-refused c = λ e form. c.in_default.ensures.none refl form.clock form.clock_is
+
+pub returns-then-is_read-clause-refused : goal.returns-then-is_read-clause-refused
+returns-then-is_read-clause-refused c = λ e form. unread_clock c.args.flat.now c.requires c.in-Some.clock c.in-Some.ensures.found form (c.is_read.ensures.0 c.if-is_read.true)
+
+pub returns-clause-wires : goal.returns-clause-wires
+returns-clause-wires c = record {
+  form = record {
+    clock = c.in-Some.clock;
+    clock_is = c.in-Some.ensures.found;
+    clock_unread = λ read. let both : true ≡ false = sym (c.is_read.ensures.1 read) ∙ c.if-is_read.false in absurd cc;
+    one_reader = one_each c.args.flat.now c.in_ok-readers.readers.items c.in_ok-readers.ensures.readers;
+    no_ring = no_ring_of c.args.flat.now c.requires c.in_ok-order.order c.in_ok-order.ensures.ordered;
+  };
+  clock = c.in-Some.ensures.found;
+  ordered = c.in_ok-order.ensures.ordered;
+}
