@@ -1,19 +1,21 @@
 -- The clauses of a truth table hold together exactly where the output has the table's value.
-use Rattle.std.proofs.Common.{◌≡◌, ◌∙◌, ℕ, zero, suc, ◌+◌, ◌*◌, ◌<◌, ◌≤◌, ◌/◌, ◌%◌, ◌^◌, ◌==◌, ◌||◌, ◌&&◌, Bool, true, false, not, cond, sym, refl, ap, arith, eqb-true, eq-eqb, add-zero, zero-add, append-nil, append_assoc, Result, Ok, Err, OnOk, subst, IsTrue, ◌↔◌, List, [], ◌∷◌, ◌++◌, map, length, take, get_or}
+use Rattle.std.proofs.Common.{◌≡◌, ◌∙◌, ℕ, zero, suc, ◌+◌, ◌*◌, ◌<◌, ◌≤◌, ◌/◌, ◌%◌, ◌^◌, ◌==◌, ◌||◌, ◌&&◌, Bool, true, false, not, cond, sym, refl, ap, arith, eqb-true, eq-eqb, add-zero, zero-add, append-nil, append_assoc, Result, Ok, Err, OnOk, subst, ◌↔◌, List, [], ◌∷◌, ◌++◌, map, length, take, get_or}
 use Rattle.std.specs.Int.{bit_at}
-use Rattle.std.specs.List.{enumerate_from, flat_map, list_all, range_with_len}
+use Rattle.std.specs.List.{All, enumerate_from, flat_map, list_all, range_with_len}
 use Rattle.std.proofs.Math.Nat.{div-one, pow-suc}
 use Rattle.std.proofs.lemmas.Bool.{eqb-false, ne_eqb}
 use Rattle.std.proofs.lemmas.List.Folds.{list_all-append, list_any-append}
+use Rattle.std.proofs.lemmas.List.Sums.{AllPass-from_list_all, list_all-from_AllPass}
 use Rattle.std.proofs.lemmas.Nat.{shr-shr}
 use Rattle.std.proofs.lemmas.List.{length-map, take_all}
 use Rattle.rsfq_ids.specs.Run.{row_number}
-use Rattle.cell_truth.specs.Clause.{all_hold, holds, is_true, written}
+use Rattle.rsfq_ids.specs.Formula.{Satisfies, value_of}
+use Rattle.cell_truth.specs.Clause.{written}
 use Rattle.cell_truth.specs.Truth.{digit, pin_literals, row_clause, signed, truth_clauses, truth_value}
-use Rattle.cell_truth.proofs.ClauseLaws.{negated_true, written_holds}
+use Rattle.cell_truth.proofs.ClauseLaws.{all_hold, holds, opposite_value, written_holds}
 
-signed_true : (values : ℕ → Bool) (negative : Bool) (literal : ℕ) → is_true values (signed negative literal) ≡ cond negative (not (is_true values literal)) (is_true values literal)
-signed_true values true literal = negated_true values literal
+signed_true : (values : ℕ → Bool) (negative : Bool) (literal : ℕ) → value_of values (signed negative literal) ≡ cond negative (not (value_of values literal)) (value_of values literal)
+signed_true values true literal = opposite_value values literal
 signed_true values false literal = refl
 
 -- a number and its half, against a bit and a number
@@ -38,16 +40,16 @@ pin_or_more false false more = refl
 
 -- the literals of the pins are all false exactly at the row of the pins' values
 pins_hold : (values : ℕ → Bool) (inputs : List ℕ) (from row : ℕ) → row / 2 ^ from < 2 ^ length inputs
-    → holds values (map (λ (pin, literal). signed (bit_at row pin == 1) literal) (enumerate_from from inputs)) ≡ not (row / 2 ^ from == row_number (map (is_true values) inputs))
+    → holds values (map (λ (pin, literal). signed (bit_at row pin == 1) literal) (enumerate_from from inputs)) ≡ not (row / 2 ^ from == row_number (map (value_of values) inputs))
 pins_hold values [] from row small = let none : row / 2 ^ from ≡ 0 = omega arith in rw none refl
 pins_hold values (literal ∷ literals) from row small =
     let x : ℕ = row / 2 ^ from in
     let half : row / 2 ^ (from + 1) ≡ x / 2 = sym (shr-shr row from 1) in
     let double : 2 ^ suc (length literals) ≡ 2 ^ length literals * 2 = pow-suc 2 (length literals) in
     let less : row / 2 ^ (from + 1) < 2 ^ length literals = omega (arith, half, double, small) in
-    let number : ℕ = row_number (map (is_true values) literals) in
+    let number : ℕ = row_number (map (value_of values) literals) in
     let odd : Bool = x % 2 == 1 in
-    let here : Bool = is_true values literal in
+    let here : Bool = value_of values literal in
     let rest : Bool = holds values (map (λ (pin, literal). signed (bit_at row pin == 1) literal) (enumerate_from (from + 1) literals)) in
     let later : rest ≡ not (x / 2 == number) = pins_hold values literals (from + 1) row less ∙ ap (λ y. not (y == number)) half in
     ap (λ b. b || rest) (signed_true values odd literal)
@@ -63,18 +65,18 @@ output_holds false false = refl
 
 -- the clause of a row fails exactly where the pins have the row's bits and the output is not the row's digit
 row_holds : (values : ℕ → Bool) (rows row output : ℕ) (inputs : List ℕ) → row < 2 ^ length inputs
-    → holds values (row_clause rows inputs output row) ≡ (not (row == row_number (map (is_true values) inputs)) || cond (digit rows row) (is_true values output) (not (is_true values output)))
+    → holds values (row_clause rows inputs output row) ≡ (not (row == row_number (map (value_of values) inputs)) || cond (digit rows row) (value_of values output) (not (value_of values output)))
 row_holds values rows row output inputs small =
-    let number : ℕ = row_number (map (is_true values) inputs) in
+    let number : ℕ = row_number (map (value_of values) inputs) in
     let pins : List ℕ = map (λ (pin, literal). signed (bit_at row pin == 1) literal) (enumerate_from 0 inputs) in
-    let last : Bool = is_true values (signed (not (digit rows row)) output) in
+    let last : Bool = value_of values (signed (not (digit rows row)) output) in
     let whole : row / 1 ≡ row = div-one row in
     let less : row / 2 ^ 0 < 2 ^ length inputs = omega (arith, whole, small) in
     let first : holds values pins ≡ not (row == number) = pins_hold values inputs 0 row less ∙ ap (λ y. not (y == number)) whole in
-    list_any-append (is_true values) pins (signed (not (digit rows row)) output ∷ [])
+    list_any-append (value_of values) pins (signed (not (digit rows row)) output ∷ [])
     ∙ (ap (λ b. b || (last || false)) first
     ∙ ap (λ b. not (row == number) || b)
-    (ap (λ b. b || false) (signed_true values (not (digit rows row)) output) ∙ output_holds (digit rows row) (is_true values output)))
+    (ap (λ b. b || false) (signed_true values (not (digit rows row)) output) ∙ output_holds (digit rows row) (value_of values output)))
 
 no_row : (wanted : ℕ) (asked : ℕ → Bool) (from count : ℕ) → wanted < from → list_all (λ row. not (row == wanted) || asked row) (range_with_len from count) ≡ true
 no_row wanted asked from zero low = refl
@@ -126,12 +128,12 @@ number_small (bit ∷ bits) =
 -- all clauses of a table hold together exactly where the output has the table's value
 pub truth_clauses_hold : (values : ℕ → Bool) (rows output : ℕ) (inputs : List ℕ)
     → all_hold values (truth_clauses rows (length inputs) inputs output)
-    ≡ cond (truth_value values rows inputs) (is_true values output) (not (is_true values output))
+    ≡ cond (truth_value values rows inputs) (value_of values output) (not (value_of values output))
 truth_clauses_hold values rows output inputs =
-    let bits : List Bool = map (is_true values) inputs in
-    let same : length bits ≡ length inputs = length-map inputs (is_true values) in
+    let bits : List Bool = map (value_of values) inputs in
+    let same : length bits ≡ length inputs = length-map inputs (value_of values) in
     let small : row_number bits < 2 ^ length inputs = subst (λ n. row_number bits < 2 ^ n) same (number_small bits) in
-    let asked : ℕ → Bool = λ row. cond (digit rows row) (is_true values output) (not (is_true values output)) in
+    let asked : ℕ → Bool = λ row. cond (digit rows row) (value_of values output) (not (value_of values output)) in
     rows_written values (row_clause rows inputs output) (λ row. not (row == row_number bits) || asked row) 0 (2 ^ length inputs)
     (λ row less. row_holds values rows row output inputs (omega arith))
     ∙ one_row (row_number bits) asked 0 (2 ^ length inputs) (omega arith) (omega arith)
@@ -157,18 +159,28 @@ and_right true b e = e
 and_right false b e = cc
 
 -- the same of clauses to which those of a table are added
-pub added_hold : (values : ℕ → Bool) (rows output pins : ℕ) (inputs : List ℕ) (old new : List (List ℕ)) → pins ≡ length inputs
+added_hold : (values : ℕ → Bool) (rows output pins : ℕ) (inputs : List ℕ) (old new : List (List ℕ)) → pins ≡ length inputs
     → new ≡ old ++ truth_clauses rows pins inputs output
-    → IsTrue (all_hold values new) ↔ (IsTrue (all_hold values old) × (is_true values output ≡ truth_value values rows inputs))
+    → (all_hold values new ≡ true) ↔ ((all_hold values old ≡ true) × (value_of values output ≡ truth_value values rows inputs))
 added_hold values rows output pins inputs old new many is =
     let said : Bool = truth_value values rows inputs in
-    let here : Bool = is_true values output in
+    let here : Bool = value_of values output in
     let split : all_hold values new ≡ (all_hold values old && cond said here (not here)) =
     ap (all_hold values) (is ∙ ap (λ n. old ++ truth_clauses rows n inputs output) many)
     ∙ (list_all-append (holds values) old (truth_clauses rows (length inputs) inputs output)
     ∙ ap (λ b. all_hold values old && b) (truth_clauses_hold values rows output inputs)) in (
       λ all. let both = sym split ∙ all in (and_left _ _ both, same_as said here (and_right (all_hold values old) (cond said here (not here)) both)),
       λ (first, same). split ∙ (ap (λ b. b && cond said here (not here)) first ∙ same_from said here same),
+    )
+
+-- the same of what satisfies each clause
+pub added_satisfied : (values : ℕ → Bool) (rows output pins : ℕ) (inputs : List ℕ) (old new : List (List ℕ)) → pins ≡ length inputs
+    → new ≡ old ++ truth_clauses rows pins inputs output
+    → All (Satisfies values) new ↔ (All (Satisfies values) old × (value_of values output ≡ truth_value values rows inputs))
+added_satisfied values rows output pins inputs old new many is =
+    let both = added_hold values rows output pins inputs old new many is in (
+      λ all. let (first, same) = both.0 (list_all-from_AllPass (holds values) new all) in (AllPass-from_list_all (holds values) old first, same),
+      λ (first, same). AllPass-from_list_all (holds values) new (both.1 (list_all-from_AllPass (holds values) old first, same)),
     )
 
 -- one more row of a list of rows

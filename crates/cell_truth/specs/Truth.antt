@@ -3,7 +3,8 @@ use Rattle.std.specs.Prelude.{ℕ, ◌^◌, ◌==◌, Bool, not, if◌then◌els
 use Rattle.std.specs.Int.{bit_at}
 use Rattle.std.specs.List.{enumerate_from, flat_map, range_with_len}
 use Rattle.rsfq_ids.specs.Run.{row_number}
-use Rattle.cell_truth.specs.Clause.{is_true, negated, written}
+use Rattle.rsfq_ids.specs.Formula.{opposite, value_of}
+use Rattle.cell_truth.specs.Clause.{written}
 
 -- the digit of a row, as a bit
 abbrev pub digit : ℕ → ℕ → Bool
@@ -11,7 +12,7 @@ digit rows row = bit_at rows row == 1
 
 -- a literal, negated where it is said so
 abbrev pub signed : Bool → ℕ → ℕ
-signed negate literal = if negate then negated literal else literal
+signed negate literal = if negate then opposite literal else literal
 
 -- each pin's literal, negated where the row has a 1 for the pin
 abbrev pub pin_literals : ℕ → List ℕ → List ℕ
@@ -27,4 +28,4 @@ truth_clauses rows pins inputs output = flat_map (λ row. written (row_clause ro
 
 -- what the table says of the inputs where the variables have these values
 abbrev pub truth_value : (ℕ → Bool) → ℕ → List ℕ → Bool
-truth_value values rows inputs = digit rows (row_number (map (is_true values) inputs))
+truth_value values rows inputs = digit rows (row_number (map (value_of values) inputs))

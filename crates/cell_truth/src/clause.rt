@@ -1,24 +1,12 @@
 //! Clauses as a formula holds them: no literal twice, and none that always holds.
 
-ghost use Rattle.std.specs.Prelude.{◌≡◌, ◌++◌, ◌+◌, ◌-◌, ◌<◌, ◌%◌, ◌==◌, ◌^◌, if◌then◌else◌, OnOk, OnErr, IfOk};
+ghost use Rattle.std.specs.Prelude.{◌≡◌, ◌++◌, ◌==◌, OnOk, OnErr, IfOk};
 ghost use Rattle.std.specs.List.{list_any};
-ghost use Rattle.cell_truth.specs.Clause.{has_both, negated, once_each, with_literal, written};
+ghost use Rattle.cell_truth.specs.Clause.{has_both, once_each, with_literal, written};
 
-use rsfq_ids::id::{Id, Lit};
+use rsfq_ids::id::Lit;
 use rsfq_ids::list::{List, NoMemory};
 use std::alloc::Global;
-
-/// The literal of the same variable that is true exactly where this one is false.
-pub fn negate(literal: Lit) -> Lit
-    ensures { result ≡ negated literal }
-{
-    let code = literal.index() as u32;
-    if code % 2 == 0 {
-        Lit::of(code + 1)
-    } else {
-        Lit::of(code - 1)
-    }
-}
 
 fn contains(literals: &[Lit], wanted: Lit) -> bool
     ensures { result ≡ list_any (λ literal. literal == wanted) literals.now }
@@ -31,7 +19,7 @@ fn has_both(literals: &[Lit]) -> bool
 {
     literals
         .iter()
-        .any(|literal| contains(literals, negate(*literal)))
+        .any(|literal| contains(literals, literal.opposite()))
 }
 
 fn add_once(clause: &mut List<Lit>, literal: Lit) -> Result<(), NoMemory>

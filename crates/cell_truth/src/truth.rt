@@ -1,11 +1,13 @@
 //! A truth table of one to four pins.
 
-ghost use Rattle.std.specs.Prelude.{◌≡◌, ◌++◌, ◌<◌, ◌≤◌, ◌^◌, ◌==◌, ℕ, Bool, IsTrue, ◌↔◌, map, OnOk, OnErr, IfOk};
+ghost use Rattle.std.specs.Prelude.{◌≡◌, ◌++◌, ◌<◌, ◌≤◌, ◌^◌, ◌==◌, ℕ, Bool, ◌↔◌, map, OnOk, OnErr, IfOk};
 ghost use Rattle.std.specs.Int.{bit_at};
-ghost use Rattle.cell_truth.specs.Clause.{all_hold, is_true, written};
+ghost use Rattle.std.specs.List.{All};
+ghost use Rattle.rsfq_ids.specs.Formula.{Satisfies, value_of};
+ghost use Rattle.cell_truth.specs.Clause.{written};
 ghost use Rattle.cell_truth.specs.Truth.{digit, row_clause, signed, truth_clauses, truth_value};
 
-use crate::clause::{add_clause, negate};
+use crate::clause::add_clause;
 use rsfq_ids::id::Lit;
 use rsfq_ids::list::{List, NoMemory};
 use std::alloc::Global;
@@ -30,7 +32,11 @@ impl<const PINS: usize> Model for Truth<PINS> {
 fn signed(negative: bool, literal: Lit) -> Lit
     ensures { result ≡ signed negative literal }
 {
-    if negative { negate(literal) } else { literal }
+    if negative {
+        literal.opposite()
+    } else {
+        literal
+    }
 }
 
 fn bit(row: u16, pin: usize) -> bool
@@ -96,7 +102,7 @@ impl<const PINS: usize> Truth<PINS> {
     ) -> Result<(), NoMemory>
         requires { PINS ≤ 4 }
         ensures added { OnOk result (into.new ≡ into.old ++ truth_clauses self.now PINS inputs.now output) }
-        ensures meaning { OnOk result ((values : ℕ → Bool) → IsTrue (all_hold values into.new) ↔ (IsTrue (all_hold values into.old) × (is_true values output ≡ truth_value values self.now inputs.now))) }
+        ensures meaning { OnOk result ((values : ℕ → Bool) → All (Satisfies values) into.new ↔ (All (Satisfies values) into.old × (value_of values output ≡ truth_value values self.now inputs.now))) }
         ensures kept { OnErr result (into.new ≡ into.old) }
     {
         let mut made = List::new(alloc);
@@ -124,28 +130,55 @@ mod tests {
         table.at(row)
     }
 
-    #[test]
-    fn an_and_has_its_clauses(rt: HostRuntime) -> Result<(), Fail> {
-        let table: Truth<2> = Truth::new(0b1000);
-        let mut clauses = List::new(rt.alloc());
-        let done = table.clauses(
-            rt.alloc(),
-            &[Lit::of(0), Lit::of(2)],
-            Lit::of(4),
-            &mut clauses,
-        );
-        assert!(rt; done.is_ok());
-        let wanted = [[0, 2, 5], [1, 2, 5], [0, 3, 5], [1, 3, 4]];
-        assert_eq!(rt; clauses.len(), 4);
-        for (place, row) in wanted.iter().enumerate() {
-            let Some(clause) = clauses.get(place) else {
-                panic!(rt; "no clause");
-            };
-            assert_eq!(rt; clause.len(), 3);
-            for (at, literal) in clause.as_slice().iter().enumerate() {
-                assert!(rt; at < 3);
-                assert_eq!(rt; literal.index(), row[at]);
+    fn add_clauses<const PINS: usize>(
+        alloc: Global,
+        rows: u16,
+        literals: &[u32; 4],
+        into: &mut List<List<Lit>>,
+    ) -> Result<(), NoMemory>
+        requires { PINS ≤ 3 }
+    {
+        let table: Truth<PINS> = Truth::new(rows);
+        let mut inputs = [Lit::of(0); PINS];
+        for pin in 0..PINS {
+            inputs[pin] = Lit::of(literals[pin]);
+        }
+        table.clauses(alloc, &inputs, Lit::of(literals[3]), into)
+    }
+
+    fn text_of(rt: &HostRuntime, clauses: &[List<Lit>]) -> Result<String, Fail> {
+        let mut text = String::new(rt.alloc());
+        for clause in clauses {
+            for literal in clause.as_slice() {
+                let number = format!(in rt.alloc(); "{} ", literal.index())?;
+                text.push_str(number.as_str())?;
             }
+            text.push_str("0 ")?;
+        }
+        Ok(text)
+    }
+
+    // The pins' literals from the first on; the last of the four is the output's. A literal is twice its variable, plus 1 for the negation.
+    #[test]
+    fn tables_have_their_clauses(rt: HostRuntime) -> Result<(), Fail> {
+        let cases: [(usize, u16, [u32; 4], &str); 5] = [
+            (1, 0b10, [2, 0, 0, 4], "2 5 0 3 4 0 "),
+            (1, 0b01, [2, 0, 0, 4], "2 4 0 3 5 0 "),
+            (2, 0b1000, [2, 4, 0, 6], "2 4 7 0 3 4 7 0 2 5 7 0 3 5 6 0 "),
+            (2, 0b0110, [2, 2, 0, 6], "2 7 0 3 7 0 "),
+            (
+                3,
+                0b1110_1000,
+                [0, 0, 2, 4],
+                "0 2 5 0 1 2 4 0 0 3 5 0 1 3 4 0 ",
+            ),
+        ];
+        for (pins, rows, literals, wanted) in cases {
+            let mut clauses = List::new(rt.alloc());
+            let done = by_pins!(pins, add_clauses(rt.alloc(), rows, &literals, &mut clauses));
+            assert!(rt; done.is_ok());
+            let text = text_of(&rt, clauses.as_slice())?;
+            assert_eq!(rt; text.as_str(), wanted);
         }
         Ok(())
     }

@@ -1,3 +1,6 @@
+pub mod Binding
+pub mod Groups
 pub mod Lines
+pub mod Names
 pub mod Roles
 pub mod Said

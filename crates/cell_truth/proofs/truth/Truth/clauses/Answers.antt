@@ -2,7 +2,7 @@ use Rattle.std.proofs.Common.{◌≡◌, ◌∙◌, ◌^◌, ◌++◌, ap, sym, 
 use Rattle.std.specs.List.{flat_map, range_with_len}
 use Rattle.cell_truth.specs.Clause.{written}
 use Rattle.cell_truth.specs.Truth.{row_clause}
-use Rattle.cell_truth.proofs.TruthLaws.{added_hold, on_ok, row_more}
+use Rattle.cell_truth.proofs.TruthLaws.{added_satisfied, on_ok, row_more}
 use Rattle.cell_truth.proofs.truth.Truth.clauses.Goals as goal
 
 pub loop-row-preserved : goal.loop-row-preserved
@@ -17,6 +17,6 @@ returns-clause-meaning g c =
     let all : c.loop-row.row ≡ 2 ^ g.row.PINS = omega (arith, c.loop-row.auto.row-end, c.loop-row-test.false, c.row_count-row-end.ensures) in
     on_ok c.append.result
     (λ is values.
-    added_hold values c.args.self.now c.args.output g.row.PINS c.args.inputs.now c.args.into.now c.append.new.self (sym c.told-inputs)
+    added_satisfied values c.args.self.now c.args.output g.row.PINS c.args.inputs.now c.args.into.now c.append.new.self (sym c.told-inputs)
     (is ∙ ap (λ (made : List (List ℕ)). c.args.into.now ++ made) (c.loop-row.invariant ∙ ap (λ n. flat_map row (range_with_len 0 n)) all)))
     c.append.ensures.ok
