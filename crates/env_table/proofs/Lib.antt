@@ -1,3 +1,8 @@
+pub mod BindFacts
 pub mod EnvFacts
+pub mod FaultFacts
 pub mod PlaceFacts
+pub mod PortFacts
 pub mod ReadFacts
+pub mod SoundFacts
+pub mod TextFacts

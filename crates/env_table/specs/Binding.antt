@@ -1,7 +1,7 @@
 -- The bench that the lines of a timing table make of a circuit, and the first fault of lines that make none.
-use Rattle.std.specs.Prelude.{◌≡◌, ◌≢◌, ℕ, ◌==◌, Bool, true, false, not, ◌||◌, if◌then◌else◌, int_lt, ℤ, List, [], ◌∷◌, ◌++◌, length, map, slice_get, Option, Some, None, is_some, find}
+use Rattle.std.specs.Prelude.{◌≡◌, ◌≢◌, ℕ, ◌==◌, Bool, true, false, not, if◌then◌else◌, int_lt, ℤ, List, [], ◌∷◌, ◌++◌, length, map, slice_get, Option, Some, None, is_some, find}
 use Rattle.std.specs.Option.{option_map, option_map_or}
-use Rattle.std.specs.List.{enumerate_from, flat_map, list_all, list_any, range_with_len, zip}
+use Rattle.std.specs.List.{flat_map, list_all, list_any, range_with_len, zip}
 use Rattle.rsfq_ids.specs.declared.id.PortId.{PortId}
 use Rattle.rsfq_ids.specs.declared.circuit.Bench.{Bench}
 use Rattle.rsfq_ids.specs.declared.circuit.PortBit.{PortBit}

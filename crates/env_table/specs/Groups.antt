@@ -1,5 +1,6 @@
 -- Maps from names to port bits.
-use Rattle.std.specs.Prelude.{◌≡◌, ℕ, List, [], Bor}
+use Rattle.std.specs.Prelude.{◌≡◌, ℕ, List, [], Vec}
+use Rattle.std.specs.Borrow.{Bor}
 use Rattle.std.specs.BTreeMap.{BTreeMap, get_by}
 use Rattle.std.specs.Option.{option_map_or}
 use Rattle.std.specs.Ordering.{nat_cmp}
@@ -11,7 +12,7 @@ use Rattle.env_table.specs.declared.bit_names.BitNames.{BitNames}
 use Rattle.env_table.specs.Names.{is_bit_of, places_of}
 
 -- the bits that a name has in a map
-abbrev pub group_of : BTreeMap (Bor (List ℕ)) (Vec PortId) → List ℕ → List PortId
+abbrev pub group_of : {Y : Type 0} → BTreeMap (Bor (List ℕ)) (Vec PortId Y) → List ℕ → List PortId
 group_of groups name = option_map_or (λ bits. bits.items) (get_by (λ key. slice_cmp nat_cmp name key.now) groups) []
 
 -- the maps hold the bits of each name

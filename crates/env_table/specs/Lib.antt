@@ -1,4 +1,5 @@
 pub mod Binding
+pub mod Bound
 pub mod Groups
 pub mod Lines
 pub mod Names

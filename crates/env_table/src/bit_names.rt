@@ -1,6 +1,8 @@
 //! Which port bits a name stands for.
 
-ghost use Rattle.std.specs.Prelude.{◌≡◌, ◌++◌, ◌∷◌, ◌==◌, ◌<◌, ◌≤◌, ◌^◌, ℕ, [], false, if◌then◌else◌, length, take, IfOk, OnOk, IfSome, IfNone};
+ghost use Rattle.std.specs.Prelude.{◌≡◌, ◌++◌, ◌∷◌, ◌==◌, ◌<◌, ◌≤◌, ◌^◌, ℕ, List, [], false, if◌then◌else◌, length, take, IfOk, OnOk, IfSome, IfNone};
+ghost use Rattle.std.specs.Char.{is_ascii_digit};
+ghost use Rattle.std.specs.List.{list_all};
 ghost use Rattle.std.specs.Str.{bytes_eq};
 ghost use Rattle.table_fields.specs.Records.{is_number};
 ghost use Rattle.env_table.specs.Names.{is_bit_of, is_place, places_of};
@@ -12,11 +14,18 @@ use rsfq_ids::list::NoMemory;
 use std::alloc::Global;
 use std::collections::BTreeMap;
 
+fn are_digits(text: &[u8]) -> bool
+    ensures { result ≡ list_all is_ascii_digit text.now }
+{
+    text.iter().all(|byte| byte.is_ascii_digit())
+}
+
 /// One digit or more.
+#[tactic(auto, using(crate::proofs::TextFacts::digits_all))]
 fn is_number(text: &[u8]) -> bool
     ensures { result ≡ is_number text.now }
 {
-    !text.is_empty() && text.iter().all(u8::is_ascii_digit)
+    !text.is_empty() && are_digits(text)
 }
 
 /// One digit or more, and then `]`.
@@ -34,9 +43,9 @@ fn whole_of(printed: &str) -> Option<&str>
     ensures name { IfSome result (λ whole. (name : List ℕ) → is_bit_of name printed.now ≡ bytes_eq name whole.now) }
     ensures none { IfNone result ((name : List ℕ) → is_bit_of name printed.now ≡ false) }
 {
-    let open = printed.rfind('[')?;
-    if is_place(&printed.as_bytes()[open + 1..]) {
-        Some(&printed[..open])
+    let bracket = printed.rfind('[')?;
+    if is_place(&printed.as_bytes()[bracket + 1..]) {
+        Some(&printed[..bracket])
     } else {
         None
     }
@@ -65,10 +74,10 @@ fn add_port<'a>(names: &mut BitNames<'a>, port: &'a PortBit, bit: PortId) -> Res
 {
     let printed = port.name.as_str();
     add_bit(&mut names.printed, printed, bit)?;
-    match whole_of(printed) {
-        Some(whole) => add_bit(&mut names.whole, whole, bit),
-        None => Ok(()),
+    if let Some(whole) = whole_of(printed) {
+        add_bit(&mut names.whole, whole, bit)?;
     }
+    Ok(())
 }
 
 impl<'a> BitNames<'a> {

@@ -13,10 +13,10 @@ use crate::role::{Role, fits_port, role_of};
 use csv::ByteRecord;
 use rsfq_ids::circuit::{PortUse, Strobe};
 use rsfq_ids::name::Name;
+use rsfq_ids::table_fault::TableWhy;
 use std::alloc::Global;
 use table_fields::checks::{check_count, check_empty, check_text, read_time};
 use table_fields::records::{field_at, text_at};
-use rsfq_ids::table_fault::TableWhy;
 
 /// What a line says: the period, or something of a port.
 #[derive(Drop)]

@@ -11,10 +11,10 @@ use crate::env::{Env, EnvLine};
 use crate::line::{Said, read_line};
 use csv::ByteRecord;
 use rsfq_ids::list::List;
+use rsfq_ids::table_fault::{TableFault, TableWhy};
 use std::alloc::Global;
 use table_fields::checks::check_head;
 use table_fields::records::read_records;
-use rsfq_ids::table_fault::{TableFault, TableWhy};
 
 const NO_MEMORY: TableFault = TableFault {
     row: 0,
@@ -157,86 +157,4 @@ pub fn read_env(alloc: Global, bytes: &[u8]) -> Result<Env, TableFault>
     };
     check_start(&records)?;
     read_lines(alloc, &records)
-}
-
-#[cfg(test)]
-mod tests {
-    use super::*;
-    use rsfq_ids::circuit::PortUse;
-    use std::test::Fail;
-
-    fn answer_to(rt: &HostRuntime, rows: &[u8]) -> Result<String, Fail> {
-        let mut text = Vec::new(rt.alloc());
-        text.extend_from_slice(b"role,port,x,y,z\n")?;
-        text.extend_from_slice(rows)?;
-        match read_env(rt.alloc(), text.as_slice()) {
-            Ok(env) => Ok(format!(in rt.alloc();
-                "period {} lines {}",
-                env.period,
-                env.lines.len()
-            )?),
-            Err(fault) => Ok(format!(in rt.alloc(); "refused env {fault}")?),
-        }
-    }
-
-    #[test]
-    fn tables_are_read_or_refused(rt: HostRuntime) -> Result<(), Fail> {
-        let cases: [(&[u8], &str); 18] = [
-            (
-                b"period,,20000,,\nclock,clk,0,,\ninput,a,4000,6000,\noutput,y,0,1000,1000\n",
-                "period 20000 lines 3",
-            ),
-            (
-                b"period,,13000,,\nclock,clk,0,,\ninput,a,14000,16000,\noutput,y,5000,1000,1000\n",
-                "period 13000 lines 3",
-            ),
-            (b"period,,1,,\n", "period 1 lines 0"),
-            (b"", "refused env 1 period"),
-            (b"clock,clk,0,,\n", "refused env 2 period"),
-            (b"\n\xff\n", "refused env 1 utf8"),
-            (b"period,,1,\n", "refused env 1 fields 4"),
-            (b"Period,,1,,\n", "refused env 1 kind"),
-            (b"period,a,1,,\n", "refused env 1 pins"),
-            (b"input,,1,2,\n", "refused env 1 pins"),
-            (b"period,,0,,\n", "refused env 1 range 2"),
-            (b"period,,1,2,\n", "refused env 1 number 3"),
-            (b"clock,clk,,,\n", "refused env 1 number 2"),
-            (b"input,a,2,1,\n", "refused env 1 interval"),
-            (b"input,a,1,1000000001,\n", "refused env 1 range 3"),
-            (b"output,y,0,0,1\n", "refused env 1 range 3"),
-            (b"output,y,0,1,0\n", "refused env 1 range 4"),
-            (
-                b"clock,clk,0,,\nperiod,,5,,\nperiod,,6,,\n",
-                "refused env 3 repeated 2",
-            ),
-        ];
-        for (rows, wanted) in cases {
-            let answer = answer_to(&rt, rows)?;
-            assert_eq!(rt; answer.as_str(), wanted);
-        }
-        Ok(())
-    }
-
-    #[test]
-    fn an_output_has_its_strobe(rt: HostRuntime) -> Result<(), Fail> {
-        let text = b"role,port,x,y,z\nperiod,,9,,\noutput,y,1,2,3\n";
-        let Ok(env) = read_env(rt.alloc(), text) else {
-            panic!(rt; "refused");
-        };
-        let Some(line) = env.lines.get(0) else {
-            panic!(rt; "no line");
-        };
-        assert_eq!(rt; line.port.as_str(), "y");
-        assert_eq!(rt; line.jitter, 0);
-        match line.used {
-            PortUse::Strobed(strobe) => {
-                assert_eq!(rt; strobe.offset, 1);
-                assert_eq!(rt; strobe.setup, 2);
-                assert_eq!(rt; strobe.hold, 3);
-            }
-            PortUse::Clock => panic!(rt; "a clock"),
-            PortUse::Arrival { low: _, high: _ } => panic!(rt; "an input"),
-        }
-        Ok(())
-    }
 }
