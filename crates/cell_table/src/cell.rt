@@ -13,12 +13,12 @@ use crate::times::read_times;
 use csv::ByteRecord;
 use rsfq_ids::name::Name;
 use rsfq_ids::table::{CellRow, Kind};
+use rsfq_ids::table_fault::TableWhy;
 use std::alloc::Global;
 use table_fields::checks::{check_count, check_text};
 use table_fields::name_table::NameTable;
 use table_fields::names::is_plain_name;
 use table_fields::records::{field_at, text_at};
-use rsfq_ids::table_fault::TableWhy;
 
 /// Makes the first checks of a cell, and reads its kind.
 #[tactic(auto, unfolding(table_fields::specs::Records::first_of))]

@@ -6,4 +6,6 @@ mod digits;
 mod kind;
 mod pins;
 pub mod read;
+#[cfg(test)]
+mod tests;
 mod times;

@@ -11,9 +11,9 @@ use crate::kind::{fits_clock, fits_inputs, fits_outputs};
 use rsfq_ids::list::{List, NoMemory};
 use rsfq_ids::name::Name;
 use rsfq_ids::table::Kind;
+use rsfq_ids::table_fault::TableWhy;
 use std::alloc::{AllocError, Global};
 use table_fields::names::is_plain_name;
-use rsfq_ids::table_fault::TableWhy;
 
 /// The pins of a cell by their names.
 #[derive(Drop)]

@@ -13,11 +13,11 @@ use crate::cell::read_cell;
 use csv::ByteRecord;
 use rsfq_ids::list::List;
 use rsfq_ids::table::{CellRow, CellTable};
+use rsfq_ids::table_fault::{TableFault, TableWhy};
 use std::alloc::Global;
 use table_fields::checks::check_head;
 use table_fields::name_table::NameTable;
 use table_fields::records::{read_records, text_at};
-use rsfq_ids::table_fault::{TableFault, TableWhy};
 
 const NO_MEMORY: TableFault = TableFault {
     row: 0,
@@ -101,115 +101,18 @@ fn read_rows(alloc: Global, records: &[ByteRecord]) -> Result<CellTable, TableFa
 /// Reads the bytes of a cell table.
 ///
 /// A `TableFault` comes exactly where the bytes are no table, and names the first row, from 0, and the first cause;
-/// want of memory alone is tied to no cause.
+/// want of memory alone is tied to no cause. Fewer rows than 2^32 are read, so that a `u32` counts them.
 pub fn read_cells(alloc: Global, bytes: &[u8]) -> Result<CellTable, TableFault>
+    ensures few { OnOk result (length (records_of bytes.now) < 2 ^ 32) }
     ensures cells { IfOk result (AreCellsOf (records_of bytes.now)) }
     ensures well_formed { IfOk result IsTable }
     ensures plain { IfOk result (λ table. All HasPlainNames table.rows) }
     ensures fault { IfErr result (λ fault. fault.why ≢ TableWhy.Memory → IsFirstFault (records_of bytes.now) fault) }
+    ensures few_refused { IfErr result (λ fault. fault.why ≢ TableWhy.Memory → length (records_of bytes.now) < 2 ^ 32) }
 {
     let Ok(records) = read_records(alloc, bytes) else {
         return Err(NO_MEMORY);
     };
     check_start(&records)?;
     read_rows(alloc, &records)
-}
-
-#[cfg(test)]
-mod tests {
-    use super::*;
-    use std::test::Fail;
-
-    fn answer_to(rt: &HostRuntime, rows: &[u8]) -> Result<String, Fail> {
-        let mut text = Vec::new(rt.alloc());
-        text.extend_from_slice(b"cell,kind,inputs,clock,outputs,function,lo,hi,setup,hold,dead\n")?;
-        text.extend_from_slice(rows)?;
-        match read_cells(rt.alloc(), text.as_slice()) {
-            Ok(table) => Ok(format!(in rt.alloc(); "accepted {}", table.rows.len())?),
-            Err(fault) => Ok(format!(in rt.alloc(); "refused cells {fault}")?),
-        }
-    }
-
-    #[test]
-    fn tables_are_read_or_refused(rt: HostRuntime) -> Result<(), Fail> {
-        let cases: [(&[u8], &str); 26] = [
-            (
-                b"JTL,jtl,a,,q,,2000,3000,,,0\nSPL,split,a,,q0 q1,,3000,4000,,,0\nMRG,merge,a b,,q,,4000,5000,,,5000\nDFF,gate,a,clk,q,01,5000,7000,2000,1000,10000\nNOT,gate,a,clk,q,10,6000,8000,2000,1000,10000\nAND,gate,a b,clk,q,0001,6000,8000,2000,1000,10000\nXOR,gate,a b,clk,q,0110,6000,8000,2000,1000,10000\n",
-                "accepted 7",
-            ),
-            (b"", "accepted 0"),
-            (b"JTL,jtl,a,,q,,3000,2000,,,0\n", "refused cells 1 interval"),
-            (b"JTL,jtl,a,,q,,0002,3,,,0\n", "accepted 1"),
-            (b"\n\nJTL,jtl,a,,q,,2,3,,\n", "refused cells 1 fields 10"),
-            (b"J\xffL,jtl,a,,q,,2,3,,,0\n", "refused cells 1 utf8"),
-            (b"1L,jtl,a,,q,,2,3,,,0\n", "refused cells 1 name"),
-            (b"wire,jtl,a,,q,,2,3,,,0\n", "refused cells 1 name"),
-            (b"J,JTL,a,,q,,2,3,,,0\n", "refused cells 1 kind"),
-            (b"J,jtl,a b,,q,,2,3,,,0\n", "refused cells 1 pins"),
-            (b"J,jtl,a,clk,q,,2,3,,,0\n", "refused cells 1 pins"),
-            (b"S,split,a,,q  r,,2,3,,,0\n", "refused cells 1 pins"),
-            (b"S,split,a,,q q,,2,3,,,0\n", "refused cells 1 pins"),
-            (b"G,gate,a,a,q,01,2,3,1,1,1\n", "refused cells 1 pins"),
-            (b"G,gate,a,,q,01,2,3,1,1,1\n", "refused cells 1 pins"),
-            (b"J,jtl,a,,q,01,2,3,,,0\n", "refused cells 1 function"),
-            (
-                b"G,gate,a b,c,q,011,2,3,1,1,1\n",
-                "refused cells 1 function",
-            ),
-            (b"G,gate,a,c,q,02,2,3,1,1,1\n", "refused cells 1 function"),
-            (b"J,jtl,a,,q,,2,+3,,,0\n", "refused cells 1 number 7"),
-            (b"J,jtl,a,,q,,2,3,1,,0\n", "refused cells 1 number 8"),
-            (b"J,jtl,a,,q,,2,3,,,\n", "refused cells 1 number 10"),
-            (b"J,jtl,a,,q,,2,1000000001,,,0\n", "refused cells 1 range 7"),
-            (b"G,gate,a,c,q,01,2,3,1,0,1\n", "refused cells 1 range 9"),
-            (b"G,gate,a,c,q,01,2,3,1,1,0\n", "refused cells 1 range 10"),
-            (
-                b"J,jtl,a,,q,,2,3,,,0\nK,jtl,a,,q,,2,3,,,0\nJ,jtl,a,,q,,2,3,,,0\n",
-                "refused cells 3 repeated 1",
-            ),
-            (
-                b"J,jtl,a,,q,,2,1000000000,,,0\nJ,jtl,a,,q,,x,2,,,0\n",
-                "refused cells 2 number 6",
-            ),
-        ];
-        for (rows, wanted) in cases {
-            let answer = answer_to(&rt, rows)?;
-            assert_eq!(rt; answer.as_str(), wanted);
-        }
-        Ok(())
-    }
-
-    #[test]
-    fn no_bytes_are_no_table(rt: HostRuntime) -> Result<(), Fail> {
-        match read_cells(rt.alloc(), b"") {
-            Ok(_) => panic!(rt; "accepted"),
-            Err(fault) => {
-                assert_eq!(rt; fault.row, 0);
-                assert_eq!(rt; fault.why, TableWhy::Header);
-            }
-        }
-        Ok(())
-    }
-
-    #[test]
-    fn a_gate_has_its_fields(rt: HostRuntime) -> Result<(), Fail> {
-        let text =
-            b"cell,kind,inputs,clock,outputs,function,lo,hi,setup,hold,dead\nAND,gate,a b,clk,q,0010,6000,8000,2000,1000,10000\n";
-        let Ok(table) = read_cells(rt.alloc(), text) else {
-            panic!(rt; "refused");
-        };
-        let Some(row) = table.rows.get(0) else {
-            panic!(rt; "no row");
-        };
-        assert_eq!(rt; row.name.as_str(), "AND");
-        assert_eq!(rt; row.kind, rsfq_ids::table::Kind::Gate);
-        assert_eq!(rt; row.inputs.len(), 2);
-        assert_eq!(rt; row.truth, 4);
-        assert_eq!(rt; row.low, 6000);
-        assert_eq!(rt; row.high, 8000);
-        assert_eq!(rt; row.setup, 2000);
-        assert_eq!(rt; row.hold, 1000);
-        assert_eq!(rt; row.dead, 10000);
-        Ok(())
-    }
 }

@@ -7,9 +7,9 @@ ghost use Rattle.cell_table.specs.Fields.{guard_fault, least_dead, times_fault};
 
 use csv::ByteRecord;
 use rsfq_ids::table::Kind;
+use rsfq_ids::table_fault::TableWhy;
 use table_fields::checks::{check_empty, read_time};
 use table_fields::records::field_at;
-use rsfq_ids::table_fault::TableWhy;
 
 /// The times of a cell, in femtoseconds.
 #[derive(Clone, Copy)]

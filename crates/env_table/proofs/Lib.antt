@@ -1,7 +1,6 @@
 pub mod BindFacts
 pub mod EnvFacts
 pub mod FaultFacts
-pub mod PlaceFacts
 pub mod PortFacts
 pub mod ReadFacts
 pub mod SoundFacts

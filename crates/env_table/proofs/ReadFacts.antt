@@ -23,7 +23,7 @@ use Rattle.env_table.specs.declared.role.Role.TheVariants as role
 use Rattle.env_table.specs.Roles.{fits_port, role_of, role_text, times_fault}
 use Rattle.env_table.specs.Lines.{AreLinesOf, IsFirstFault, fault_at, is_of_period, is_period, line_as, line_fault, line_of, period_fault, repeated_fault, role_in, row_fault, start_fault}
 use Rattle.env_table.specs.Said.{Adds, Blocks, IsReadUpTo, SaysAs}
-use Rattle.env_table.proofs.PlaceFacts.{place_found, place_passed}
+use Rattle.table_fields.proofs.PlaceFacts.{place_found, place_passed}
 
 -- bytes without a record have no head
 pub no_records : {X : Type 0} (f : X → List (List ℕ)) (xs : List X) → (length xs == 0) ≡ true → IsFirstFault (map f xs) (record { row = 0; why = Header })

@@ -146,11 +146,13 @@ fn read_lines(alloc: Global, records: &[ByteRecord]) -> Result<Env, TableFault>
 /// Reads the bytes of a timing table.
 ///
 /// A `TableFault` comes exactly where the bytes are no table, and names the first row, from 0, and the first cause;
-/// want of memory alone is tied to no cause.
+/// want of memory alone is tied to no cause. Fewer rows than 2^32 are read, so that a `u32` counts them.
 pub fn read_env(alloc: Global, bytes: &[u8]) -> Result<Env, TableFault>
+    ensures few { OnOk result (length (records_of bytes.now) < 2 ^ 32) }
     ensures lines { IfOk result (AreLinesOf (records_of bytes.now)) }
     ensures well_formed { IfOk result IsEnv }
     ensures fault { IfErr result (λ fault. fault.why ≢ TableWhy.Memory → IsFirstFault (records_of bytes.now) fault) }
+    ensures few_refused { IfErr result (λ fault. fault.why ≢ TableWhy.Memory → length (records_of bytes.now) < 2 ^ 32) }
 {
     let Ok(records) = read_records(alloc, bytes) else {
         return Err(NO_MEMORY);

@@ -1,5 +1,7 @@
 pub mod CheckFacts
 pub mod FieldList
+pub mod NameFacts
+pub mod PlaceFacts
 pub mod Places
 pub mod RecordList
 pub mod RowLists

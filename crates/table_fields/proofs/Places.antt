@@ -3,11 +3,9 @@ use Rattle.std.proofs.Common.{◌≡◌, ◌<◌, ◌≤◌, ◌+◌, ◌||◌, 
 use Rattle.std.specs.Prelude.{position}
 use Rattle.std.specs.List.{list_any, position_or_len, prefix_len}
 use Rattle.std.specs.Str.{bytes_eq}
-use Rattle.std.specs.Borrow.{Bor}
 use Rattle.std.proofs.lemmas.List.{length-map, map-append}
 use Rattle.std.proofs.lemmas.Bool.{lt-ltb}
 use Rattle.std.proofs.lemmas.Slice.Eq.{bytes_eq-Decides}
-use Rattle.table_fields.specs.Names.{with_name}
 
 prefix_len-map : {X Y : Type 0} (p : Y → Bool) (f : X → Y) (xs : List X) → prefix_len p (map f xs) ≡ prefix_len (λ x. p (f x)) xs
 prefix_len-map p f [] = refl
@@ -19,15 +17,6 @@ position-map p f xs = rw (prefix_len-map (λ y. not (p y)) f xs, length-map) ref
 list_any-map : {X Y : Type 0} (p : Y → Bool) (f : X → Y) (xs : List X) → list_any p (map f xs) ≡ list_any (λ x. p (f x)) xs
 list_any-map p f [] = refl
 list_any-map p f (x ∷ xs) = ap (λ b. p (f x) || b) (list_any-map p f xs)
-
--- the texts of the names after one more
-pub texts_with_name : (keys new : List (Bor (List ℕ))) (name : Bor (List ℕ))
-    → new ≡ cond (list_any (λ k. bytes_eq name.now k.now) keys) keys (keys ++ name ∷ []) → map (λ k. k.now) new ≡ with_name (map (λ k. k.now) keys) name.now
-texts_with_name keys new name is = rw (is, list_any-map (bytes_eq name.now) (λ (k : Bor (List ℕ)). k.now) keys) (go (list_any (λ k. bytes_eq name.now k.now) keys))
-  where
-    go : (b : Bool) → map (λ k. k.now) (cond b keys (keys ++ name ∷ [])) ≡ cond b (map (λ k. k.now) keys) (map (λ k. k.now) keys ++ name.now ∷ [])
-    go true = refl
-    go false = map-append (λ (k : Bor (List ℕ)). k.now) keys (name ∷ [])
 
 module _ {X : Type 0} (p : X → Bool) where
   pub place_there : (xs : List X) → list_any p xs ≡ true → position_or_len p xs < length xs

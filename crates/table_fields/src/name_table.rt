@@ -1,27 +1,29 @@
 //! Names and their places, in the order in which they were first seen.
 
-ghost use Rattle.std.specs.Prelude.{◌≡◌, ◌<◌, ◌-◌, ◌^◌, [], length, None, Some, IfSome, IfOk, OnOk, OnErr};
+ghost use Rattle.std.specs.Prelude.{◌≡◌, ◌<◌, ◌-◌, ◌^◌, [], length, IfSome, OnOk, OnErr};
 ghost use Rattle.table_fields.specs.Names.{place_of, with_name};
 
-use indexmap::IndexSet;
 use rsfq_ids::list::NoMemory;
 use std::alloc::Global;
+use std::collections::BTreeMap;
 use std::marker::Model;
 
-/// The names so far. Looking a name up takes one step, whatever their number.
+/// The names so far. A name is looked up in an ordered map, in time logarithmic in their number whatever they are.
 #[derive(Drop)]
 pub struct NameTable<'a> {
-    names: IndexSet<&'a str>,
+    names: Vec<&'a str>,
+    places: BTreeMap<&'a str, u32>,
 }
 
 impl<'a> Model for NameTable<'a> {
-    ghost use Rattle.std.specs.Prelude.{ℕ, List, map, length, ◌<◌, ◌^◌};
+    ghost use Rattle.std.specs.Prelude.{ℕ, List, map};
+    ghost use Rattle.table_fields.specs.PlaceMap.{AreFewPlaces};
 
     ghost Value = { List (List ℕ) };
 
-    ghost view = { λ a. map (λ s. s.now) a.names.keys };
+    ghost view = { λ a. map (λ s. s.now) a.names.items };
 
-    ghost invariant = { λ a. length a.names.keys < 2 ^ 32 };
+    ghost invariant = { λ a. AreFewPlaces a.names.items a.places };
 }
 
 impl<'a> NameTable<'a> {
@@ -30,7 +32,8 @@ impl<'a> NameTable<'a> {
         ensures { result ≡ [] }
     {
         NameTable {
-            names: IndexSet::new(alloc),
+            names: Vec::new(alloc),
+            places: BTreeMap::new(alloc),
         }
     }
 
@@ -40,8 +43,18 @@ impl<'a> NameTable<'a> {
         ensures names { OnOk result (self.new ≡ with_name self.old name.entry.now) }
         ensures kept { OnErr result (self.new ≡ self.old) }
     {
-        self.names.insert_full(name)?;
-        Ok(())
+        if self.places.contains_key(name) {
+            return Ok(());
+        }
+        let place = self.names.len() as u32;
+        self.names.push(name)?;
+        match self.places.insert(name, place) {
+            Ok(_) => Ok(()),
+            Err(_) => {
+                self.names.pop();
+                Err(NoMemory)
+            }
+        }
     }
 
     /// The place of a name, if it was seen.
@@ -49,9 +62,6 @@ impl<'a> NameTable<'a> {
         ensures place { result ≡ place_of self.now name.now }
         ensures small { IfSome result (λ place. place < 2 ^ 32 - 1) }
     {
-        match self.names.get_index_of(name) {
-            Some(place) => Some(place as u32),
-            None => None,
-        }
+        self.places.get(name).copied()
     }
 }

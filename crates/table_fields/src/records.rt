@@ -1,6 +1,6 @@
 //! The records of a table, by csv's rules.
 
-ghost use Rattle.std.specs.Prelude.{◌≡◌, ◌<◌, ◌^◌, IfOk, None, map, length};
+ghost use Rattle.std.specs.Prelude.{◌≡◌, ◌<◌, ◌^◌, IfOk, OnOk, None, map, length};
 ghost use Rattle.csv.specs.Records.{fields_of};
 ghost use Rattle.table_fields.specs.Records.{field, records_of, text_fault};
 
@@ -13,6 +13,7 @@ use std::alloc::Global;
 pub fn read_records(alloc: Global, bytes: &[u8]) -> Result<Vec<ByteRecord>, NoMemory>
     ensures records { IfOk result (λ v. map fields_of v.items ≡ records_of bytes.now) }
     ensures few { IfOk result (λ v. length v.items < 2 ^ 32) }
+    ensures rows { OnOk result (length (records_of bytes.now) < 2 ^ 32) }
 {
     let reader = ReaderBuilder::new()
         .has_headers(false)

@@ -1,6 +1,6 @@
-use Rattle.std.proofs.Common.{Bor, List, ℕ, ◌≡◌, ◌∙◌, ap, sym, refl, rules, inl, inr, true, map, Some, ◌∷◌, []}
+use Rattle.std.proofs.Common.{Bor, List, ℕ, ◌≡◌, ◌∙◌, ◌<◌, ◌^◌, ap, sym, refl, subst, arith, length, rules, inl, inr, true, map, Some, ◌∷◌, []}
 use Rattle.std.specs.Result.{is_ok}
-use Rattle.std.proofs.lemmas.List.{map-append}
+use Rattle.std.proofs.lemmas.List.{length-map, map-append}
 use Rattle.csv.specs.Reading.{Reached, builder_config, builder_names_headers, builder_trim, default_config, strip_bom, with_flexible}
 use Rattle.csv.specs.Records.{fields_of}
 use Rattle.csv.specs.declared.parser.State.TheVariants as st
@@ -45,3 +45,7 @@ returns-clause-records c =
       reached,
       rows-end (λ (s : Bor (List ℕ)). Some s.now) c.loop-row.row-iterator.rdr c.next.new.self.rdr [] default_config left config source h1,
     )
+
+pub returns-clause-rows : goal.returns-clause-rows
+returns-clause-rows c =
+    subst (λ (records : List (List (List ℕ))). length records < 2 ^ 32) (returns-clause-records c) (omega (arith, length-map c.loop-row.rows.items fields_of))
