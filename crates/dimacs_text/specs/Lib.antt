@@ -1,1 +1,4 @@
 pub mod Text
+pub mod Parts
+pub mod Number
+pub mod Reading

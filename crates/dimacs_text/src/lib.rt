@@ -1,9 +1,18 @@
 //! The text of a formula in the DIMACS format: the head `p cnf V C`, and for each clause a line of its literals that ends in ` 0`.
 #![tactic(auto)]
 
+mod clauses;
+mod fault;
+mod head;
 mod number;
+mod parts;
+mod read;
 #[cfg(test)]
 mod tests;
 mod write;
 
+pub use fault::{TextFault, TextWhy};
+pub use number::{Signed, read_number, read_signed};
+pub use parts::{field_end, line_end};
+pub use read::read_dimacs;
 pub use write::write_dimacs;

@@ -1,6 +1,8 @@
-//! Numbers and literals in decimal digits.
-ghost use Rattle.std.specs.Prelude.{◌≡◌, ◌++◌, decimal, length, take, OnOk, OnErr};
+//! Numbers and literals in decimal digits, read and written.
+ghost use Rattle.std.specs.Int.{w64};
+ghost use Rattle.std.specs.Prelude.{FitsSigned, ◌≡◌, ◌<◌, ◌≤◌, ◌++◌, decimal, length, take, IfSome, OnOk, OnErr};
 ghost use Rattle.dimacs_text.specs.Text.{literal_text};
+ghost use Rattle.dimacs_text.specs.Number.{number_up_to, signed_of, whole_of, literal_of};
 
 use itoa::Buffer;
 use rsfq_ids::id::{Id, Lit};
@@ -25,4 +27,67 @@ pub fn append_literal(out: &mut Vec<u8>, lit: Lit) -> Result<(), AllocError>
         out.extend_from_slice(b"-")?;
     }
     append_number(out, number / 2 + 1)
+}
+
+/// A number as a field writes it: behind a hyphen or not, and its size. `-0` is one too.
+#[derive(Clone, Copy, Debug, PartialEq, Eq)]
+pub struct Signed {
+    pub negative: bool,
+    pub size: u32,
+}
+
+impl Signed {
+    /// The number as it is read: below 0 behind a hyphen.
+    pub fn whole(self) -> i64
+        ensures whole { result ≡ whole_of self }
+        ensures fits { FitsSigned w64 result }
+    {
+        let size = i64::from(self.size);
+        if self.negative { -size } else { size }
+    }
+
+    /// The literal of the number.
+    pub fn literal(self) -> Lit
+        requires { (0 < self.size) × (self.size ≤ 2147483647) }
+        ensures { result ≡ literal_of self }
+    {
+        Lit::of(2 * (self.size - 1) + u32::from(self.negative))
+    }
+}
+
+/// The number of a field that is digits with an optional hyphen, of a size up to 4,294,967,295, and else `None`.
+pub fn read_signed(field: &[u8]) -> Option<Signed>
+    ensures { result ≡ signed_of field.now }
+{
+    let negative = !field.is_empty() && field[0] == b'-';
+    let digits = if negative { &field[1..] } else { field };
+    match read_number(digits, u32::MAX) {
+        Some(size) => Some(Signed { negative, size }),
+        None => None,
+    }
+}
+
+/// The number of a field that is digits, of a value up to `most`, and else `None`.
+pub fn read_number(digits: &[u8], most: u32) -> Option<u32>
+    ensures number { result ≡ number_up_to most digits.now }
+    ensures small { IfSome result (λ n. n ≤ most) }
+{
+    if digits.is_empty() {
+        return None;
+    }
+    let limit = u64::from(most);
+    let mut value: u64 = 0;
+    for byte in digits {
+        if !byte.is_ascii_digit() {
+            return None;
+        }
+        if value <= limit {
+            value = value * 10 + u64::from(*byte - b'0');
+        }
+    }
+    if value <= limit {
+        Some(value as u32)
+    } else {
+        None
+    }
 }

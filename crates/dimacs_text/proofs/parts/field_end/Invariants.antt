@@ -1,0 +1,13 @@
+use Rattle.std.proofs.Common.{length, ◌-◌, ◌≡◌, ◌≤◌, ◌+◌, drop}
+use Rattle.dimacs_text.specs.Parts.{front, is_space}
+use Rattle.dimacs_text.proofs.parts.field_end.Given as goal
+
+abbrev pub invariant-more : goal.invariant-more
+invariant-more l = record {
+  low : l.at ≤ l.end;
+  within : l.end ≤ length l.text;
+  rest : l.at + length (front is_space (drop l.at l.text)) ≡ l.end + length (front is_space (drop l.end l.text));
+}
+
+abbrev pub decreases-more : goal.decreases-more
+decreases-more l = length l.text - l.end
