@@ -11,8 +11,6 @@ use Rattle.std.proofs.lemmas.Option.{slice_get_past}
 use Rattle.std.proofs.lemmas.List.Folds.{list_any-append, list_all-append}
 use Rattle.rsfq_ids.specs.Formula.{Clause, opposite, IsOver}
 use Rattle.proof_arena.specs.Step.{reading, reading_of_rest, reads_on, reads_open, is_among, makes_false, is_tautology, ends_in_conflict, StepHolds}
-use Rattle.proof_arena.specs.Table.{falses_of}
-use Rattle.proof_arena.proofs.Marked.{none_falses}
 use Rattle.proof_arena.specs.declared.hint.HintReading.{HintReading}
 use Rattle.proof_arena.specs.declared.hint.HintReading.TheVariants.{Conflict, Passed, Unit as UnitLit, NotUnit}
 
@@ -122,10 +120,9 @@ unit_over falses vars clause lit over is =
     unit_of_rest falses vars (filter (λ l. not (falses l)) clause) lit (All-filter (λ l. not (falses l)) (λ l. l < 2 * vars) clause over) (sym is)
 
 -- marks that were cleared and then deny a clause
-pub denied : (lits : Clause) (marked cleared : List Bool) (n : ℕ) → falses_of marked ≡ (λ lit. is_among lits lit || falses_of cleared lit)
-    → cleared ≡ replicate n false → falses_of marked ≡ is_among lits
-denied lits marked cleared n is none =
-    is ∙ ap (λ (f : ℕ → Bool). λ lit. is_among lits lit || f lit) (ap falses_of none ∙ none_falses n) ∙ fun_ext (λ lit. or-false (is_among lits lit))
+pub denied : (lits : Clause) (marked cleared : ℕ → Bool) → marked ≡ (λ lit. is_among lits lit || cleared lit) → cleared ≡ (λ _. false) → marked ≡ is_among lits
+denied lits marked cleared is none =
+    is ∙ ap (λ (f : ℕ → Bool). λ lit. is_among lits lit || f lit) none ∙ fun_ext (λ lit. or-false (is_among lits lit))
 
 nothing : {A : Type 0} → IsTrue false → A
 nothing e = cc

@@ -8,8 +8,9 @@ use Rattle.std.proofs.lemmas.Bool.{cases_Bool, eqb-true}
 use Rattle.std.proofs.lemmas.Option.{slice_get-map, slice_get_within, get_or_from_slice_get}
 use Rattle.std.proofs.lemmas.List.Elements.{All-push, All-tail}
 use Rattle.rsfq_ids.specs.Formula.{Clause, opposite, value_of, Satisfies, HasSolution}
-use Rattle.proof_arena.specs.Step.{reading_of_rest, is_among, makes_false, after_hint, after_clause, ends_in_conflict, StepHolds}
+use Rattle.proof_arena.specs.Step.{reading, reading_of_rest, is_among, makes_false, after_hint, after_clause, ends_in_conflict, StepHolds}
 use Rattle.proof_arena.specs.Log.{LogStep, StepsHold, HasEnded, lits_of}
+use Rattle.proof_arena.specs.Laws.{Agrees, IsTold}
 use Rattle.proof_arena.proofs.Marked.{eqb-false}
 
 or_right : (b c : Bool) → b ≡ false → (b || c) ≡ true → c ≡ true
@@ -81,10 +82,6 @@ value-opposite values lit is = elim (cases_Bool (lit % 2 == 0)) [
       rw (other.0, other.1) (not_true (values (lit / 2)) known)
 ]
 
--- literals that are false under an assignment
-abbrev pub Agrees : (ℕ → Bool) → (ℕ → Bool) → Type 0
-Agrees values falses = (lit : ℕ) → falses lit ≡ true → value_of values lit ≡ false
-
 -- the literal that satisfies a clause is one that is not false
 kept : (values falses : ℕ → Bool) → Agrees values falses → (clause : Clause) → list_any (value_of values) clause ≡ true
     → list_any (value_of values) (filter (λ lit. not (falses lit)) clause) ≡ true
@@ -150,7 +147,7 @@ no_conflict values clauses all (hint ∷ hints) falses agrees ends =
     on_clause values clauses all falses (λ known. ends_in_conflict clauses known hints) (no_conflict values clauses all hints) agrees hint
     (slice_get clauses hint) refl ends
 
-none_among : (values : ℕ → Bool) (lits : Clause) → list_any (value_of values) lits ≡ false → Agrees values (is_among lits)
+pub none_among : (values : ℕ → Bool) (lits : Clause) → list_any (value_of values) lits ≡ false → Agrees values (is_among lits)
 none_among values [] none lit among = absurd (no_true among)
 none_among values (x ∷ lits) none lit among =
     let first : value_of values x ≡ false = or_first _ _ none in
@@ -174,7 +171,7 @@ pub steps_sound : (values : ℕ → Bool) (vars : ℕ) (before : List Clause) (s
     → All (Satisfies values) before → All (Satisfies values) (before ++ lits_of steps)
 steps_sound values vars before [] hold all = subst (All (Satisfies values)) (sym (append-nil before)) all
 steps_sound values vars before (s ∷ steps) hold all =
-    let one : Satisfies values s.lits = step_sound values vars before s.lits s.hints hold.0 all in
+    let one : Satisfies values s.lits = step_sound values vars before s.lits s.hints hold.0.holds all in
     subst (All (Satisfies values)) (append_assoc before (s.lits ∷ []) (lits_of steps))
     (steps_sound values vars (before ++ s.lits ∷ []) steps hold.1 (All-push (Satisfies values) before s.lits all one))
 
@@ -195,3 +192,18 @@ pub ended_refutes : (vars : ℕ) (given : List Clause) (steps : List LogStep) �
 ended_refutes vars given steps hold ended solution =
     ended_at solution.0 steps (slice_get steps (length steps - 1)) refl ended
     (all_second (Satisfies solution.0) given (lits_of steps) (steps_sound solution.0 vars given steps hold solution.1))
+
+-- what is left of a satisfied clause
+rest_told : (values falses : ℕ → Bool) → Agrees values falses → (left : Clause) → list_any (value_of values) left ≡ true → IsTold values falses (reading_of_rest falses left)
+rest_told values falses agrees [] is = no_true is
+rest_told values falses agrees (lit ∷ left) is = elim (cases_Bool (list_any (λ l. falses (opposite l)) (lit ∷ left))) [
+  | inl passed ↦ rw passed tt
+  | inr none ↦ elim (cases_Bool (list_all (λ other. lit == other) left)) [
+    | inl same ↦ rw (none, same) (agrees_on values falses lit agrees (unit_true values lit left same is))
+    | inr more ↦ rw (none, more) tt
+  ]
+]
+
+pub reading_told : (values falses : ℕ → Bool) (clause : Clause) → list_any (value_of values) clause ≡ true → Agrees values falses → IsTold values falses (reading falses clause)
+reading_told values falses clause is agrees =
+    rest_told values falses agrees (filter (λ lit. not (falses lit)) clause) (kept values falses agrees clause is)

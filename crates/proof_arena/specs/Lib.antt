@@ -3,3 +3,4 @@ pub mod Table
 pub mod Stamps
 pub mod Log
 pub mod Held
+pub mod Laws

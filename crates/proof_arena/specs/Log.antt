@@ -1,6 +1,7 @@
 -- What a proof log means: the clauses that were given, and the steps after them.
-use Rattle.std.specs.Prelude.{◌≡◌, ℕ, ◌-◌, List, [], ◌∷◌, ◌++◌, length, map, ⊤, IsSomeAnd, slice_get}
-use Rattle.rsfq_ids.specs.Formula.{Clause}
+use Rattle.std.specs.Prelude.{◌≡◌, ℕ, Bool, ◌<◌, ◌-◌, List, [], ◌∷◌, ◌++◌, length, map, ⊤, IsSomeAnd, slice_get}
+use Rattle.std.specs.List.{All}
+use Rattle.rsfq_ids.specs.Formula.{Clause, Satisfies}
 use Rattle.proof_arena.specs.Step.{StepHolds}
 
 pub record LogStep : Type 0 where
@@ -20,11 +21,19 @@ lits_of steps = map (λ (step : LogStep). step.lits) steps
 abbrev pub clauses_of : Log → List Clause
 clauses_of log = log.given ++ lits_of log.steps
 
--- each step holds against the clauses before it
+-- a step holds against the clauses before it, and each of its hints names one of them, also behind the conflict
+pub record IsStep (vars : ℕ) (before : List Clause) (step : LogStep) : Type 0 where
+  pub holds : StepHolds vars before step.lits step.hints
+  pub known : All (λ hint. hint < length before) step.hints
+
+-- and so does each step
 abbrev pub StepsHold : ℕ → List Clause → List LogStep → Type 0
 StepsHold vars before [] = ⊤
-StepsHold vars before (step ∷ rest) =
-    StepHolds vars before step.lits step.hints × StepsHold vars (before ++ step.lits ∷ []) rest
+StepsHold vars before (step ∷ rest) = IsStep vars before step × StepsHold vars (before ++ step.lits ∷ []) rest
+
+-- each assignment that satisfies the clauses given satisfies all clauses of the log
+abbrev pub ClausesFollow : Log → Type 0
+ClausesFollow log = (values : ℕ → Bool) → All (Satisfies values) log.given → All (Satisfies values) (clauses_of log)
 
 -- there is a last step, and its clause is empty
 abbrev pub HasEnded : List LogStep → Type 0

@@ -6,6 +6,7 @@
 
 mod answer;
 mod hint;
+mod laws;
 mod log;
 mod marks;
 mod step;
@@ -14,6 +15,7 @@ mod tests;
 
 pub use answer::Answer;
 pub use hint::HintReading;
+pub use laws::{denials_are_sound, readings_are_sound};
 pub use log::ProofLog;
 pub use marks::Marks;
 pub use step::step_holds;

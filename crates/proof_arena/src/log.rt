@@ -1,9 +1,10 @@
 //! The log: its clauses and hints lie in an arena, which is owned outside and outlives it.
 ghost use Rattle.std.specs.Prelude.{◌≡◌, ℕ, ◌+◌, ◌-◌, ◌<◌, ◌≤◌, ◌^◌, ◌↔◌, IsTrue, List, [], ◌∷◌, ◌++◌, length, Some, slice_get, IfOk, OnErr};
+ghost use Rattle.std.specs.List.{All};
 ghost use Rattle.std.specs.Option.{option_map};
 ghost use Rattle.rsfq_ids.specs.Formula.{IsFormula, IsOver, HasSolution};
 ghost use Rattle.proof_arena.specs.Step.{StepHolds};
-ghost use Rattle.proof_arena.specs.Log.{LogStep, clauses_of, StepsHold, HasEnded};
+ghost use Rattle.proof_arena.specs.Log.{LogStep, clauses_of, StepsHold, HasEnded, ClausesFollow};
 
 use bumpalo::Bump;
 use rsfq_ids::circuit::Cnf;
@@ -54,10 +55,11 @@ impl<'a> ProofLog<'a> {
         }
     }
 
-    /// Adds a step that holds, copies its clause and its hints into the arena, and answers the number of its clause. After a refusal the
+    /// Adds a step that holds and whose hints all name clauses, copies its clause and its hints into the arena, and answers the number of its clause. After a refusal the
     /// log is as it was.
     pub fn add(&mut self, lits: &[Lit], hints: &[ClauseId]) -> Result<ClauseId, NoMemory>
         requires holds { StepHolds self.old.vars (clauses_of self.old) lits.now hints.now }
+        requires known { All (λ hint. hint < length (clauses_of self.old)) hints.now }
         requires room { length (clauses_of self.old) < 2 ^ 32 - 1 }
         ensures id { IfOk result (λ id. id ≡ length (clauses_of self.old)) }
         ensures added { IfOk result (λ _. self.new ≡ record self.old { steps = self.old.steps ++ record { lits = lits.now; hints = hints.now } ∷ [] }) }
@@ -120,6 +122,13 @@ impl<'a> ProofLog<'a> {
         ensures { result ≡ self.now.vars }
     {
         self.cnf.vars
+    }
+
+    /// Each assignment that satisfies the formula satisfies all clauses of the log. So an empty clause at any place shows that none does.
+    pub fn clauses_follow(&self)
+        ensures { ClausesFollow self.now }
+    {
+        let _steps = self.steps.len();
     }
 
     /// Whether there is a last step and its clause is empty. Then no assignment satisfies the formula.

@@ -1,8 +1,9 @@
 //! Which literals are false while a step is checked.
 //!
-//! Each literal has a stamp, and is false where the stamp is the one that counts now. So all marks are taken back by counting on, and a
-//! step costs no more than its own literals and those of its hints.
-ghost use Rattle.std.specs.Prelude.{◌≡◌, ◌||◌, ℕ, ◌+◌, ◌*◌, ◌<◌, ◌^◌, IfOk, length, replicate, slice_set, true, false};
+//! Each literal of a table has a stamp, and is false where the stamp is the one that counts now. So all marks are taken back by counting
+//! on, and a step costs no more than its own literals and those of its hints. Literals beyond the table stand in an ordered set while
+//! they are false, so that a table may be small where a formula names more variables than it uses.
+ghost use Rattle.std.specs.Prelude.{◌≡◌, ◌||◌, ℕ, ◌+◌, ◌*◌, ◌<◌, ◌^◌, IfOk, OnOk, length, false};
 ghost use Rattle.std.specs.List.{All, list_any};
 ghost use Rattle.rsfq_ids.specs.Formula.{opposite};
 ghost use Rattle.proof_arena.specs.Step.{is_among, makes_false, reading, reads_on};
@@ -12,19 +13,22 @@ use crate::hint::HintReading;
 use rsfq_ids::id::{Id, Lit};
 use rsfq_ids::list::NoMemory;
 use std::alloc::Global;
+use std::collections::BTreeSet;
 use std::marker::Model;
 
-/// Which literals are false, over a number of literals that is set when they are made. Contracts see a bit for each literal.
+/// Which literals are false, with a table of a size that is set when it is made. Contracts see a bit for each literal of the table, and
+/// the false literals beyond it.
 #[derive(Drop)]
 pub struct Marks {
     stamps: Vec<u32>,
     count: u32,
+    beyond: BTreeSet<u32>,
 }
 
 impl Model for Marks {
-    ghost use Rattle.std.specs.Prelude.{Bool, List};
+    ghost use Rattle.proof_arena.specs.Table.{Marked};
 
-    ghost Value = { List Bool };
+    ghost Value = { Marked };
 
     ghost use Rattle.proof_arena.specs.Stamps.{marked_of, AreStamps};
 
@@ -34,21 +38,28 @@ impl Model for Marks {
 }
 
 impl Marks {
-    /// Marks over the literals of so many variables, none of them false.
+    /// Marks with a table for the literals of so many variables, of 8 bytes a variable. No literal is false.
     pub fn new(alloc: Global, vars: u32) -> Result<Marks, NoMemory>
-        ensures { IfOk result (λ m. m ≡ replicate (2 * vars) false) }
+        ensures falses { IfOk result (λ m. falses_of m ≡ (λ _. false)) }
+        ensures size { IfOk result (λ m. length m.table ≡ 2 * vars) }
     {
         let mut stamps = Vec::new(alloc);
         match stamps.resize(2 * vars as usize, 0) {
-            Ok(()) => Ok(Marks { stamps, count: 1 }),
+            Ok(()) => Ok(Marks {
+                stamps,
+                count: 1,
+                beyond: BTreeSet::new(alloc),
+            }),
             Err(_) => Err(NoMemory),
         }
     }
 
     /// Takes all marks back.
     pub fn clear(&mut self)
-        ensures { self.new ≡ replicate (length self.old) false }
+        ensures falses { falses_of self.new ≡ (λ _. false) }
+        ensures size { length self.new.table ≡ length self.old.table }
     {
+        self.beyond.clear();
         if self.count == u32::MAX {
             self.stamps.as_mut_slice().fill(0);
             self.count = 1;
@@ -57,35 +68,63 @@ impl Marks {
         }
     }
 
-    /// Makes a literal false.
-    pub fn make_false(&mut self, lit: usize)
-        requires { lit < length self.old }
-        ensures marked { self.new ≡ slice_set self.old lit true }
+    /// Makes a literal of the table false. It takes no memory.
+    pub fn make_false(&mut self, lit: Lit)
+        requires { lit < length self.old.table }
         ensures falses { falses_of self.new ≡ makes_false (falses_of self.old) lit }
-        ensures len { length self.new ≡ length self.old }
+        ensures size { length self.new.table ≡ length self.old.table }
     {
-        self.stamps[lit] = self.count;
+        self.stamps[lit.index()] = self.count;
+    }
+
+    /// Makes a literal false, in the table or beyond it.
+    pub fn make_any_false(&mut self, lit: Lit) -> Result<(), NoMemory>
+        ensures falses { OnOk result (falses_of self.new ≡ makes_false (falses_of self.old) lit) }
+        ensures size { length self.new.table ≡ length self.old.table }
+    {
+        let place = lit.index();
+        if place < self.stamps.len() {
+            self.make_false(lit);
+            return Ok(());
+        }
+        match self.beyond.insert(place as u32) {
+            Ok(_) => Ok(()),
+            Err(_) => Err(NoMemory),
+        }
     }
 
     /// Whether a literal is false.
-    pub fn is_false(&self, lit: usize) -> bool
+    pub fn is_false(&self, lit: Lit) -> bool
         ensures { result ≡ falses_of self.now lit }
     {
-        match self.stamps.get(lit) {
-            Some(stamp) => *stamp == self.count,
-            None => false,
+        let place = lit.index();
+        if place < self.stamps.len() {
+            self.stamps[place] == self.count
+        } else {
+            self.beyond.contains(&(place as u32))
         }
     }
 
-    /// Makes all literals of a clause false, beside those that are.
+    /// Makes all literals of a clause false, beside those that are. They are literals of the table, and it takes no memory.
     pub fn deny(&mut self, lits: &[Lit])
-        requires { All (λ lit. lit < length self.old) lits.now }
+        requires { All (λ lit. lit < length self.old.table) lits.now }
         ensures falses { falses_of self.new ≡ (λ lit. is_among lits.now lit || falses_of self.old lit) }
-        ensures len { length self.new ≡ length self.old }
+        ensures size { length self.new.table ≡ length self.old.table }
     {
         for lit in lits {
-            self.make_false(lit.index());
+            self.make_false(*lit);
         }
+    }
+
+    /// Makes all literals of any clause false, beside those that are.
+    pub fn deny_any(&mut self, lits: &[Lit]) -> Result<(), NoMemory>
+        ensures falses { OnOk result (falses_of self.new ≡ (λ lit. is_among lits.now lit || falses_of self.old lit)) }
+        ensures size { length self.new.table ≡ length self.old.table }
+    {
+        for lit in lits {
+            self.make_any_false(*lit)?;
+        }
+        Ok(())
     }
 
     /// Whether the opposite of a literal of a clause is false.
@@ -93,7 +132,7 @@ impl Marks {
         ensures { result ≡ list_any (λ lit. falses_of self.now (opposite lit)) clause.now }
     {
         for lit in clause {
-            if self.is_false(opposite_of(*lit)) {
+            if self.is_false(lit.opposite()) {
                 return true;
             }
         }
@@ -115,10 +154,10 @@ impl Marks {
     fn read_on(&self, said: HintReading, lit: Lit) -> HintReading
         ensures { result ≡ reads_on (falses_of self.now) said lit }
     {
-        if self.is_false(lit.index()) {
+        if self.is_false(lit) {
             return said;
         }
-        if self.is_false(opposite_of(lit)) {
+        if self.is_false(lit.opposite()) {
             return HintReading::Passed;
         }
         match said {
@@ -127,17 +166,5 @@ impl Marks {
             HintReading::Passed => said,
             _ => HintReading::NotUnit,
         }
-    }
-}
-
-/// The number of the other literal of the same variable.
-pub fn opposite_of(lit: Lit) -> usize
-    ensures { result ≡ opposite lit }
-{
-    let number = lit.index();
-    if number % 2 == 0 {
-        number + 1
-    } else {
-        number - 1
     }
 }

@@ -8,14 +8,14 @@ ghost use Rattle.proof_arena.specs.Log.{clauses_of};
 
 use crate::hint::HintReading;
 use crate::log::ProofLog;
-use crate::marks::{Marks, opposite_of};
+use crate::marks::Marks;
 use rsfq_ids::id::{ClauseId, Id, Lit};
 
 /// Whether a step holds against the clauses of a log. It takes no memory, and leaves the marks fit for the next call.
 pub fn step_holds(log: &ProofLog<'_>, lits: &[Lit], hints: &[ClauseId], marks: &mut Marks) -> bool
-    requires { 2 * log.now.vars ≤ length marks.old }
+    requires { 2 * log.now.vars ≤ length marks.old.table }
     ensures exact { IsTrue result ↔ StepHolds log.now.vars (clauses_of log.now) lits.now hints.now }
-    ensures size { length marks.new ≡ length marks.old }
+    ensures size { length marks.new.table ≡ length marks.old.table }
 {
     if !are_over(log.vars(), lits) {
         return false;
@@ -35,9 +35,9 @@ fn are_over(vars: u32, lits: &[Lit]) -> bool
 
 /// Whether the hints, read in order, end in a conflict. The marks are used up.
 fn find_conflict(log: &ProofLog<'_>, hints: &[ClauseId], marks: &mut Marks) -> bool
-    requires { 2 * log.now.vars ≤ length marks.old }
+    requires { 2 * log.now.vars ≤ length marks.old.table }
     ensures found { result ≡ ends_in_conflict (clauses_of log.now) (falses_of marks.old) hints.now }
-    ensures size { length marks.new ≡ length marks.old }
+    ensures size { length marks.new.table ≡ length marks.old.table }
 {
     for hint in hints {
         if hint.index() >= log.clauses() as usize {
@@ -46,7 +46,7 @@ fn find_conflict(log: &ProofLog<'_>, hints: &[ClauseId], marks: &mut Marks) -> b
         match marks.read(log.clause(*hint)) {
             HintReading::Conflict => return true,
             HintReading::Passed => {}
-            HintReading::Unit(lit) => marks.make_false(opposite_of(lit)),
+            HintReading::Unit(lit) => marks.make_false(lit.opposite()),
             HintReading::NotUnit => return false,
         }
     }

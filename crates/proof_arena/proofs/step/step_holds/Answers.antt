@@ -3,6 +3,7 @@ use Rattle.std.specs.List.{list_any}
 use Rattle.rsfq_ids.specs.Formula.{opposite, IsOver}
 use Rattle.proof_arena.specs.Step.{is_tautology, ends_in_conflict}
 use Rattle.proof_arena.specs.Log.{clauses_of}
+use Rattle.proof_arena.specs.Table.{falses_of}
 use Rattle.proof_arena.proofs.Readings.{denied, not_over, tautologous, judged}
 use Rattle.proof_arena.proofs.step.step_holds.Goals as goal
 
@@ -16,7 +17,7 @@ returns-then-not-are_over-clause-exact c =
 
 pub returns-then-not-has_true-clause-exact : goal.returns-then-not-has_true-clause-exact
 returns-then-not-has_true-clause-exact c =
-    let falses = denied c.args.lits.now c.deny.new.self c.clear.new.self _ c.deny.ensures.falses c.clear.ensures in
+    let falses = denied c.args.lits.now (falses_of c.deny.new.self) (falses_of c.clear.new.self) c.deny.ensures.falses c.clear.ensures.falses in
     let over : IsOver c.args.log.now.vars c.args.lits.now = subst (λ vars. IsOver vars c.args.lits.now) c.vars.ensures (c.are_over.ensures.0 (cc)) in
     let plain : is_tautology c.args.lits.now ≡ c.has_true.result =
     sym (c.has_true.ensures ∙ ap (λ (f : ℕ → Bool). list_any (λ lit. f (opposite lit)) c.args.lits.now) falses) in
@@ -26,7 +27,7 @@ returns-then-not-has_true-clause-exact c =
 
 pub returns-else-not-has_true-clause-exact : goal.returns-else-not-has_true-clause-exact
 returns-else-not-has_true-clause-exact c =
-    let falses = denied c.args.lits.now c.deny.new.self c.clear.new.self _ c.deny.ensures.falses c.clear.ensures in
+    let falses = denied c.args.lits.now (falses_of c.deny.new.self) (falses_of c.clear.new.self) c.deny.ensures.falses c.clear.ensures.falses in
     let plain : is_tautology c.args.lits.now ≡ c.has_true.result =
     sym (c.has_true.ensures ∙ ap (λ (f : ℕ → Bool). list_any (λ lit. f (opposite lit)) c.args.lits.now) falses) in
     let same : c.has_true.result ≡ true = (cc) in

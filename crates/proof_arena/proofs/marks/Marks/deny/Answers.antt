@@ -6,8 +6,8 @@ use Rattle.proof_arena.proofs.marks.Marks.deny.Goals as goal
 pub loop-lit-preserved : goal.loop-lit-preserved
 loop-lit-preserved c = record {
   falses = deny_more (falses_of c.args.self.now) (falses_of c.loop-lit.self) (falses_of c.make_false.new.self) c.args.lits.now c.loop-lit.lit-index
-      c.lit-item.result c.loop-lit-test.true c.lit-item.is c.loop-lit.invariant.falses (rw c.index.ensures.number at c.make_false.ensures.falses);
-  len = c.make_false.ensures.len ∙ c.loop-lit.invariant.len;
+      c.lit-item.result c.loop-lit-test.true c.lit-item.is c.loop-lit.invariant.falses c.make_false.ensures.falses;
+  size = c.make_false.ensures.size ∙ c.loop-lit.invariant.size;
 }
 
 pub returns-clause-falses : goal.returns-clause-falses

@@ -7,5 +7,5 @@ use Rattle.proof_arena.proofs.marks.Marks.deny.Given as goal
 abbrev pub invariant-loop-lit : goal.invariant-loop-lit
 invariant-loop-lit l = record {
   falses : falses_of l.self ≡ (λ lit. is_among (take l.lit-index l.lits) lit || falses_of l.fn.self lit);
-  len : length l.self ≡ length l.fn.self;
+  size : length l.self.table ≡ length l.fn.self.table;
 }

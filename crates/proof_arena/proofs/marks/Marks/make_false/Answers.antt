@@ -1,12 +1,13 @@
-use Rattle.std.proofs.Common.{◌∙◌, ap}
-use Rattle.proof_arena.specs.Table.{falses_of}
-use Rattle.proof_arena.proofs.Marked.{written_one, marked_falses}
+use Rattle.std.proofs.Common.{◌≡◌, ◌∙◌, ◌<◌, Bool, List, ap, subst, sym, length, map, set}
+use Rattle.std.specs.Prelude.{◌==◌}
+use Rattle.proof_arena.specs.Step.{makes_false}
+use Rattle.proof_arena.specs.Table.{Marked, falses_of}
+use Rattle.proof_arena.specs.Stamps.{marked_of}
+use Rattle.proof_arena.proofs.Marked.{stamped}
 use Rattle.proof_arena.proofs.marks.Marks.make_false.Goals as goal
-
-pub returns-clause-marked : goal.returns-clause-marked
-returns-clause-marked c = written_one c.self.inside.count c.args.lit c.self.inside.stamps.items c.args.self.now c.self.view_is
 
 pub returns-clause-falses : goal.returns-clause-falses
 returns-clause-falses c =
-    ap falses_of (written_one c.self.inside.count c.args.lit c.self.inside.stamps.items c.args.self.now c.self.view_is)
-    ∙ marked_falses c.args.self.now c.args.lit c.requires
+    let lt : c.args.lit < length (marked_of c.self.inside).table = subst (λ (m : Marked). c.args.lit < length m.table) (sym c.self.view_is) c.requires in
+    rw c.index.ensures.number (stamped c.self.inside.count c.self.inside.stamps.items c.self.inside.beyond.keys c.args.lit lt
+    ∙ ap (λ (m : Marked). makes_false (falses_of m) c.args.lit) c.self.view_is)
