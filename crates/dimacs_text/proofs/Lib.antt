@@ -6,3 +6,4 @@ pub mod WordSays
 pub mod HeadSays
 pub mod Formed
 pub mod Results
+pub mod FieldLemmas

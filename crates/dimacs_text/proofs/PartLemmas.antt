@@ -59,3 +59,13 @@ pub rest_is : (text : List ℕ) (at : ℕ) → take (length text - at) (drop at 
 rest_is text at =
     let count : length text - at ≡ length (drop at text) = sym (length-drop at text) in
     ap (λ n. take n (drop at text)) count ∙ take-length (drop at text)
+
+front_stops : (p : ℕ → Bool) (xs : List ℕ) → front p (drop (length (front p xs)) xs) ≡ []
+front_stops p [] = refl
+front_stops p (b ∷ bs) = elim (cases_Bool (p b)) [ inl e ↦ rw e (rw e refl) | inr e ↦ rw e (front_stops p bs) ]
+
+-- behind a front stands a byte that ends it, or nothing
+pub front_ends : (p : ℕ → Bool) (at end : ℕ) (text : List ℕ) → end ≡ at + length (front p (drop at text)) → front p (drop end text) ≡ []
+front_ends p at end text is =
+    let behind : drop end text ≡ drop (length (front p (drop at text))) (drop at text) = ap (λ k. drop k text) is ∙ sym (drop_drop at (length (front p (drop at text))) text) in
+    ap (front p) behind ∙ front_stops p (drop at text)

@@ -1,5 +1,5 @@
 -- How a text divides into parts: lines, which end at newlines, and words, which blanks part.
-use Rattle.std.specs.Prelude.{ℕ, ◌+◌, ◌==◌, ◌||◌, Bool, true, false, not, if◌then◌else◌, List, [], ◌∷◌}
+use Rattle.std.specs.Prelude.{◌≡◌, ◌<◌, ◌≤◌, ℕ, ◌+◌, ◌-◌, length, take, drop, ◌==◌, ◌||◌, Bool, true, false, not, if◌then◌else◌, List, [], ◌∷◌}
 use Rattle.std.specs.List.{filter}
 
 -- a part of a text: the place of its first byte, and its bytes
@@ -47,3 +47,10 @@ lines at bytes = parts is_newline at bytes
 -- the parts that have bytes
 abbrev pub words : (ℕ → Bool) → ℕ → List ℕ → List Part
 words ends at bytes = filter has_bytes (parts ends at bytes)
+
+-- the first of the words from a place on, where spaces alone part words: it begins and ends at these places
+pub record IsFirstField (text : List ℕ) (at start end : ℕ) : Type 0 where
+  pub first : words is_space at (drop at text) ≡ record { start = start; bytes = take (end - start) (drop start text) } ∷ words is_space end (drop end text)
+  pub from : at ≤ start
+  pub some : start < end
+  pub within : end ≤ length text

@@ -104,7 +104,7 @@ impl Clauses {
 
     /// Takes a literal to the clause that is open.
     fn take(&mut self, number: Signed) -> Result<(), NoMemory>
-        requires { (0 < number.size) × (number.size ≤ 2147483647) }
+        requires { number.size ≤ 2147483647 }
         ensures { OnOk result (self.new ≡ record { closed = self.old.closed; pending = self.old.pending ++ literal_of number ∷ [] }) }
     {
         match self.pending.push(number.literal()) {

@@ -13,6 +13,6 @@ mod write;
 
 pub use fault::{TextFault, TextWhy};
 pub use number::{Signed, read_number, read_signed};
-pub use parts::{field_end, line_end};
+pub use parts::{line_end, next_field};
 pub use read::read_dimacs;
 pub use write::write_dimacs;

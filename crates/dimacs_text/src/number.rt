@@ -46,12 +46,12 @@ impl Signed {
         if self.negative { -size } else { size }
     }
 
-    /// The literal of the number.
+    /// The literal of the number. 0 gives that of 1.
     pub fn literal(self) -> Lit
-        requires { (0 < self.size) × (self.size ≤ 2147483647) }
+        requires { self.size ≤ 2147483647 }
         ensures { result ≡ literal_of self }
     {
-        Lit::of(2 * (self.size - 1) + u32::from(self.negative))
+        Lit::of(2 * self.size.saturating_sub(1) + u32::from(self.negative))
     }
 }
 

@@ -1,6 +1,6 @@
 use Rattle.std.proofs.Common.{length, ◌-◌, ◌≡◌, ◌≤◌, ◌+◌, drop}
 use Rattle.dimacs_text.specs.Parts.{front, is_newline}
-use Rattle.dimacs_text.proofs.parts.line_end.Given as goal
+use Rattle.dimacs_text.proofs.parts.newline_from.Given as goal
 
 abbrev pub invariant-more : goal.invariant-more
 invariant-more l = record {

@@ -1,0 +1,112 @@
+-- Additions, hints, deletions and tables, piece by piece.
+use Rattle.std.proofs.Common.{◌≡◌, ◌∙◌, ◌<◌, ◌≤◌, ◌+◌, ℕ, Bool, true, false, zero, suc, refl, sym, ap, ap₂, subst, arith, take, drop, List, [], ◌∷◌, ◌++◌, length, map, get_or, inl, inr, Option, Some, None, Result, Ok, Err, add-one, drop-cons}
+use Rattle.std.specs.Prelude.{◌==◌, ◌||◌, not, nat_lt, slice_get, is_some, if◌then◌else◌}
+use Rattle.std.specs.List.{list_any}
+use Rattle.std.proofs.Math.Path.{fun_ext}
+use Rattle.std.proofs.Math.Bool.{or-false}
+use Rattle.std.proofs.lemmas.Bool.{cases_Bool, eqb-true, eq-eqb, lt-ltb}
+use Rattle.std.proofs.lemmas.Bool.Decides.{eqb_tells}
+use Rattle.rsfq_ids.specs.Formula.{Clause, opposite}
+use Rattle.rsfq_ids.specs.declared.circuit.Cnf.{Cnf}
+use Rattle.proof_arena.specs.Step.{is_among, reading, is_tautology}
+use Rattle.dimacs_text.specs.Number.{literal_of}
+use Rattle.dimacs_text.specs.declared.number.Signed.{Signed}
+use Rattle.lrat_check.specs.declared.fault.LratWhy.{LratWhy}
+use Rattle.lrat_check.specs.declared.fault.LratWhy.TheVariants as why
+use Rattle.lrat_check.specs.Check.{Found, Known, given_at, with_clause, without_clause, known_at_first, at_reading, at_clause, hints_fault, range_fault, clause_of, or_else, addition_fault, added, is_empty, deleted, deleted_if}
+
+-- the next of numbers
+pub next_number : (xs : List Signed) (i : ℕ) (d : Signed) → i < length xs → drop i xs ≡ get_or xs i d ∷ drop (i + 1) xs
+next_number xs i d lt = rw (add-one, drop-cons xs i d) refl
+
+-- ---- additions
+
+judged : ℕ → Known → List Signed → List Signed → Option LratWhy
+judged vars known lits hints = or_else (range_fault vars lits) (if is_tautology (clause_of lits) then Some why.Tautology else hints_fault known.found (is_among (clause_of lits)) hints)
+
+pub is_tautologous : (vars : ℕ) (known : Known) (id : ℕ) (lits hints : List Signed) → known.last < id → range_fault vars lits ≡ None → is_tautology (clause_of lits) ≡ true
+    → addition_fault vars known id lits hints ≡ Some why.Tautology
+is_tautologous vars known id lits hints lt range taut = rw (lt-ltb known.last id lt, range, taut) refl
+
+pub is_judged : (vars : ℕ) (known : Known) (id : ℕ) (lits hints : List Signed) → known.last < id → range_fault vars lits ≡ None → is_tautology (clause_of lits) ≡ false
+    → addition_fault vars known id lits hints ≡ hints_fault known.found (is_among (clause_of lits)) hints
+is_judged vars known id lits hints lt range taut = rw (lt-ltb known.last id lt, range, taut) refl
+
+-- marks that were cleared and then deny a clause
+pub denied : (lits made : Clause) (marked cleared : ℕ → Bool) → made ≡ lits → marked ≡ (λ lit. is_among made lit || cleared lit) → cleared ≡ (λ _. false) → marked ≡ is_among lits
+denied lits made marked cleared same is none =
+    is ∙ ap (λ (f : ℕ → Bool). λ lit. is_among made lit || f lit) none ∙ fun_ext (λ lit. or-false (is_among made lit)) ∙ ap is_among same
+
+pub told : (lits made : Clause) (marked : ℕ → Bool) (b : Bool) → made ≡ lits → marked ≡ is_among lits → b ≡ list_any (λ lit. marked (opposite lit)) made → is_tautology lits ≡ b
+told lits made marked b same is any =
+    sym (any ∙ ap (λ (f : ℕ → Bool). list_any (λ lit. f (opposite lit)) made) is ∙ ap (λ (c : Clause). list_any (λ lit. is_among lits (opposite lit)) c) same)
+
+pub added_as : (known : Known) (found : Found) (id : ℕ) (clause : Clause) (b : Bool) → found ≡ with_clause known.found id clause → b ≡ (known.refuted || is_empty clause)
+    → added known id clause ≡ record { found = found; last = id; refuted = b }
+added_as known found id clause b is empty = ap₂ (λ (f : Found) (e : Bool). record { found = f; last = id; refuted = e }) (sym is) (sym empty)
+
+pub none_of : (lits : List Signed) → (length lits == 0) ≡ is_empty (clause_of lits)
+none_of [] = refl
+none_of (lit ∷ lits) = elim (eqb_tells (length (lit ∷ lits)) 0) [ inl t ↦ absurd (let e = t.1 in omega arith) | inr t ↦ t.0 ]
+
+-- ---- hints
+
+pub hint_read : (found : Found) (falses : ℕ → Bool) (hint : Signed) (hints : List Signed) (clause : Clause) → hint.negative ≡ false → Some clause ≡ found hint.size
+    → hints_fault found falses (hint ∷ hints) ≡ at_reading hint.size falses (λ next. hints_fault found next hints) (reading falses clause)
+hint_read found falses hint hints clause positive is =
+    rw positive (ap (at_clause hint.size falses (λ next. hints_fault found next hints)) (sym is))
+
+-- ---- deletions
+
+deleted_so : (id : ℕ) (clause : Option Clause) (rest : Result Found LratWhy) → is_some clause ≡ true → deleted_if id clause rest ≡ rest
+deleted_so id None rest is = absurd (let e : false ≡ true = is in cc)
+deleted_so id (Some clause) rest is = refl
+
+pub one_deleted : (found : Found) (id : Signed) (ids : List Signed) → is_some (found id.size) ≡ true → deleted found (id ∷ ids) ≡ deleted (without_clause found id.size) ids
+one_deleted found id ids is = deleted_so id.size (found id.size) (deleted (without_clause found id.size) ids) is
+
+-- ---- tables
+
+more_at : (xs : List Clause) (i k : ℕ) (x : Clause) → i < length xs → x ≡ get_or xs i x → (if k == i then Some x else slice_get (take i xs) k) ≡ slice_get (take (suc i) xs) k
+more_at [] i k x lt is = absurd (omega arith)
+more_at (y ∷ ys) zero zero x lt is = ap Some is
+more_at (y ∷ ys) zero (suc k) x lt is = elim (eqb_tells (suc k) 0) [ inl t ↦ absurd (let e = t.1 in omega arith) | inr t ↦ rw t.0 refl ]
+more_at (y ∷ ys) (suc i) zero x lt is = elim (eqb_tells 0 (suc i)) [ inl t ↦ absurd (let e = t.1 in omega arith) | inr t ↦ rw t.0 refl ]
+more_at (y ∷ ys) (suc i) (suc k) x lt is =
+    let rest = more_at ys i k x (omega arith) is in
+    elim (eqb_tells k i) [
+      | inl t ↦ let same = t.1 in rw (eq-eqb (suc k) (suc i) (ap suc same)) (rw t.0 at rest)
+      | inr t ↦ elim (eqb_tells (suc k) (suc i)) [
+        | inl u ↦ absurd (t.1 (let e = u.1 in omega arith))
+        | inr u ↦ rw u.0 (rw t.0 at rest)
+      ]
+    ]
+
+given_more_at : (xs : List Clause) (i other : ℕ) (x : Clause) → i < length xs → x ≡ get_or xs i x → with_clause (given_at (take i xs)) (i + 1) x other ≡ given_at (take (i + 1) xs) other
+given_more_at xs i zero x lt is = elim (eqb_tells 0 (i + 1)) [
+  | inl t ↦ absurd (let e = t.1 in omega arith)
+  | inr t ↦ rw t.0 refl
+]
+given_more_at xs i (suc k) x lt is =
+    let rest : (if k == i then Some x else slice_get (take i xs) k) ≡ slice_get (take (i + 1) xs) k = rw add-one (more_at xs i k x lt is) in
+    elim (eqb_tells k i) [
+      | inl t ↦ let same = t.1 in rw (eq-eqb (suc k) (i + 1) (omega arith)) (rw t.0 at rest)
+      | inr t ↦ elim (eqb_tells (suc k) (i + 1)) [
+        | inl u ↦ absurd (t.1 (let e = u.1 in omega arith))
+        | inr u ↦ rw u.0 (rw t.0 at rest)
+      ]
+    ]
+
+-- the clauses of a formula up to one more
+pub given_more : (xs : List Clause) (i : ℕ) (x : Clause) → i < length xs → x ≡ get_or xs i x → with_clause (given_at (take i xs)) (i + 1) x ≡ given_at (take (i + 1) xs)
+given_more xs i x lt is = fun_ext (λ other. given_more_at xs i other x lt is)
+
+pub whole : (xs : List Clause) (i : ℕ) → length xs ≤ i → take i xs ≡ xs
+whole [] zero le = refl
+whole [] (suc i) le = refl
+whole (x ∷ xs) zero le = absurd (omega arith)
+whole (x ∷ xs) (suc i) le = ap (λ ys. x ∷ ys) (whole xs i (omega arith))
+
+pub first_known : (cnf : Cnf) (found : Found) (count : ℕ) → found ≡ given_at cnf.clauses → count ≡ length cnf.clauses
+    → record { found = found; last = count; refuted = false } ≡ known_at_first cnf
+first_known cnf found count is size = ap₂ (λ (f : Found) (n : ℕ). record { found = f; last = n; refuted = false }) is size

@@ -1,0 +1,3 @@
+pub mod FieldSays
+pub mod Refutes
+pub mod CheckSays

@@ -1,0 +1,13 @@
+-- The clauses that a table holds, and what a checker knows.
+use Rattle.std.specs.Option.{option_map}
+use Rattle.std.specs.Ordering.{nat_cmp}
+use Rattle.std.specs.BTreeMap.{get}
+use Rattle.lrat_check.specs.Check.{Found, Known}
+use Rattle.lrat_check.specs.declared.table.ClauseTable.{ClauseTable}
+use Rattle.lrat_check.specs.declared.check.Checker.{Checker}
+
+abbrev pub found_of : ClauseTable → Found
+found_of table id = option_map (λ clause. clause.now) (get nat_cmp table.clauses id)
+
+abbrev pub known_of : Checker → Known
+known_of checker = record { found = found_of checker.table; last = checker.last; refuted = checker.refuted }

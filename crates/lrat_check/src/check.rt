@@ -1,0 +1,232 @@
+//! The check of a proof.
+ghost use Rattle.std.specs.Prelude.{◌≡◌, ◌≢◌, ◌≤◌, ◌<◌, ◌+◌, ◌^◌, ◌++◌, ◌∷◌, [], None, Some, Ok, Err, true, false, length, drop, IfErr, OnOk, IfOk};
+ghost use Rattle.std.specs.List.{All};
+ghost use Rattle.rsfq_ids.specs.Formula.{IsFormula, HasSolution};
+ghost use Rattle.proof_arena.specs.Step.{is_among, is_tautology};
+ghost use Rattle.proof_arena.specs.Table.{falses_of};
+ghost use Rattle.dimacs_text.specs.Parts.{lines};
+ghost use Rattle.lrat_check.specs.Forms.{form_of};
+ghost use Rattle.lrat_check.specs.Lines.{line_of};
+ghost use Rattle.lrat_check.specs.Tables.{found_of, known_of};
+ghost use Rattle.lrat_check.specs.Check.{after_line, addition_fault, added, clause_of, deleted, hints_fault, range_fault, lines_fault, text_fault, unless_why, keeps, at_end, known_at_first};
+
+use crate::fault::{LratFault, LratWhy};
+use crate::line::{Form, Numbers};
+use crate::table::ClauseTable;
+use bumpalo::Bump;
+use dimacs_text::{Signed, line_end};
+use proof_arena::{HintReading, Marks, denials_are_sound, readings_are_sound};
+use rsfq_ids::circuit::Cnf;
+use rsfq_ids::id::Lit;
+use rsfq_ids::list::NoMemory;
+use std::alloc::Global;
+
+/// The most variables that always have a place in the table of marks.
+const NEAR: u32 = 1 << 16;
+
+/// What is known while a proof is checked.
+#[derive(Drop)]
+struct Checker<'a> {
+    vars: u32,
+    arena: &'a Bump,
+    table: ClauseTable<'a>,
+    last: u32,
+    refuted: bool,
+    marks: Marks,
+    clause: Vec<Lit>,
+}
+
+impl<'a> Checker<'a> {
+    /// What is known of a formula before the first line of a text of so many bytes.
+    fn new(
+        alloc: Global,
+        cnf: &'a Cnf,
+        len: usize,
+        arena: &'a Bump,
+    ) -> Result<Checker<'a>, NoMemory>
+        requires formula { IsFormula cnf.now }
+        requires limit { len ≤ 268435456 }
+        ensures { IfOk result (λ checker. (checker.vars ≡ cnf.entry.now.vars) × (known_of checker ≡ known_at_first cnf.entry.now)) }
+    {
+        let clauses = cnf.clauses.len() as u32;
+        let near = cnf.vars.min(NEAR.max(clauses + len as u32));
+        Ok(Checker {
+            vars: cnf.vars,
+            arena,
+            table: ClauseTable::new(alloc, cnf)?,
+            last: clauses,
+            refuted: false,
+            marks: Marks::new(alloc, near)?,
+            clause: Vec::new(alloc),
+        })
+    }
+
+    /// Checks a line.
+    fn check_line(&mut self, line: &[u8], numbers: &mut Numbers) -> Result<(), LratWhy>
+        requires { self.old.vars ≤ 2147483647 }
+        ensures ok { OnOk result (after_line self.old.vars (known_of self.old) (line_of line.now) ≡ Ok (known_of self.new)) }
+        ensures err { IfErr result (λ why. why ≢ LratWhy.Memory → after_line self.old.vars (known_of self.old) (line_of line.now) ≡ Err why) }
+        ensures vars { self.new.vars ≡ self.old.vars }
+    {
+        match numbers.read_line(line) {
+            Ok(form) => self.take_line(form, numbers),
+            Err(NoMemory) => Err(LratWhy::Memory),
+        }
+    }
+
+    /// What the check of all lines, of which there were so many, comes to.
+    fn finish(&self, lines: u32) -> Result<(), LratFault>
+        ensures ok { OnOk result (at_end lines (known_of self.now) ≡ None) }
+        ensures err { IfErr result (λ fault. at_end lines (known_of self.now) ≡ Some fault) }
+    {
+        if self.refuted {
+            Ok(())
+        } else {
+            Err(LratFault {
+                line: lines,
+                why: LratWhy::NoEmpty,
+            })
+        }
+    }
+
+    /// Reads what a line says, of the numbers that it has.
+    fn take_line(&mut self, form: Form, numbers: &Numbers) -> Result<(), LratWhy>
+        requires { self.old.vars ≤ 2147483647 }
+        ensures ok { OnOk result (after_line self.old.vars (known_of self.old) (form_of form numbers.now.lits.items numbers.now.hints.items) ≡ Ok (known_of self.new)) }
+        ensures err { IfErr result (λ why. why ≢ LratWhy.Memory → after_line self.old.vars (known_of self.old) (form_of form numbers.now.lits.items numbers.now.hints.items) ≡ Err why) }
+        ensures vars { self.new.vars ≡ self.old.vars }
+    {
+        match form {
+            Form::Skipped => Ok(()),
+            Form::Broken => Err(LratWhy::Syntax),
+            Form::Addition(id) => self.add(id, &numbers.lits, &numbers.hints),
+            Form::Deletion => self.delete(&numbers.lits),
+        }
+    }
+
+    /// Deletes clauses one by one.
+    fn delete(&mut self, ids: &[Signed]) -> Result<(), LratWhy>
+        ensures ok { OnOk result (keeps (known_of self.old) (deleted (known_of self.old).found ids.now) ≡ Ok (known_of self.new)) }
+        ensures err { IfErr result (λ why. why ≢ LratWhy.Memory → keeps (known_of self.old) (deleted (known_of self.old).found ids.now) ≡ Err why) }
+        ensures vars { self.new.vars ≡ self.old.vars }
+    {
+        for id in ids {
+            if !self.table.remove(id.size) {
+                return Err(LratWhy::NoClause(id.size));
+            }
+        }
+        Ok(())
+    }
+
+    /// Adds a clause, if it holds.
+    fn add(&mut self, id: u32, lits: &[Signed], hints: &[Signed]) -> Result<(), LratWhy>
+        requires { self.old.vars ≤ 2147483647 }
+        ensures ok { OnOk result (unless_why (addition_fault self.old.vars (known_of self.old) id lits.now hints.now) (added (known_of self.old) id (clause_of lits.now)) ≡ Ok (known_of self.new)) }
+        ensures err { IfErr result (λ why. why ≢ LratWhy.Memory → unless_why (addition_fault self.old.vars (known_of self.old) id lits.now hints.now) (added (known_of self.old) id (clause_of lits.now)) ≡ Err why) }
+        ensures vars { self.new.vars ≡ self.old.vars }
+    {
+        if id <= self.last {
+            return Err(LratWhy::Id);
+        }
+        read_clause(self.vars, lits, &mut self.clause)?;
+        self.marks.clear();
+        self.marks.deny_any(&self.clause)?;
+        if self.marks.has_true(&self.clause) {
+            return Err(LratWhy::Tautology);
+        }
+        find_conflict(&self.table, hints, &mut self.marks)?;
+        let Ok(clause) = self.arena.try_alloc_slice_copy(&self.clause) else {
+            return Err(LratWhy::Memory);
+        };
+        self.table.add(id, clause)?;
+        self.last = id;
+        self.refuted = self.refuted || lits.is_empty();
+        Ok(())
+    }
+}
+
+/// Reads the literals of a clause in place of those that were in it.
+fn read_clause(vars: u32, lits: &[Signed], clause: &mut Vec<Lit>) -> Result<(), LratWhy>
+    requires vars { vars ≤ 2147483647 }
+    ensures ok { OnOk result ((range_fault vars lits.now ≡ None) × (clause.new.items ≡ clause_of lits.now)) }
+    ensures err { IfErr result (λ why. why ≢ LratWhy.Memory → range_fault vars lits.now ≡ Some why) }
+{
+    clause.clear();
+    for lit in lits {
+        if lit.size > vars {
+            return Err(LratWhy::Range(lit.whole()));
+        }
+        match clause.push(lit.literal()) {
+            Ok(()) => {}
+            Err(_) => return Err(LratWhy::Memory),
+        }
+    }
+    Ok(())
+}
+
+/// Reads hints in order up to a conflict. The marks are used up.
+fn find_conflict(
+    table: &ClauseTable<'_>,
+    hints: &[Signed],
+    marks: &mut Marks,
+) -> Result<(), LratWhy>
+    ensures ok { OnOk result (hints_fault (found_of table.now) (falses_of marks.old) hints.now ≡ None) }
+    ensures err { IfErr result (λ why. why ≢ LratWhy.Memory → hints_fault (found_of table.now) (falses_of marks.old) hints.now ≡ Some why) }
+{
+    for hint in hints {
+        if hint.negative {
+            return Err(LratWhy::Rat);
+        }
+        let Some(clause) = table.find(hint.size) else {
+            return Err(LratWhy::NoClause(hint.size));
+        };
+        match marks.read(clause) {
+            HintReading::Conflict => return Ok(()),
+            HintReading::Passed => {}
+            HintReading::Unit(lit) => marks.make_any_false(lit.opposite())?,
+            HintReading::NotUnit => return Err(LratWhy::NotUnit(hint.size)),
+        }
+    }
+    Err(LratWhy::NoConflict)
+}
+
+/// Checks a proof of at most 268,435,456 bytes in the LRAT text format (without RAT) against a formula, whose clauses have the ids from 1 on.
+/// Clauses that are added are copied into the arena. `Ok` comes exactly where every line holds and an empty clause was added; then no
+/// assignment satisfies the formula.
+///
+/// # Errors
+///
+/// The first line that fails with the first of its causes, or `NoEmpty`. Only `LratWhy::Memory` may come of any text.
+pub fn check_text(alloc: Global, cnf: &Cnf, bytes: &[u8], arena: &Bump) -> Result<(), LratFault>
+    requires formula { IsFormula cnf.now }
+    requires limit { length bytes.now ≤ 268435456 }
+    ensures ok { OnOk result (text_fault cnf.now bytes.now ≡ None) }
+    ensures err { IfErr result (λ fault. fault.why ≢ LratWhy.Memory → text_fault cnf.now bytes.now ≡ Some fault) }
+    ensures refutes { OnOk result (¬ (HasSolution cnf.now.clauses)) }
+{
+    readings_are_sound();
+    denials_are_sound();
+    check_lines(alloc, cnf, bytes, arena)
+}
+
+/// Checks the lines of a proof.
+fn check_lines(alloc: Global, cnf: &Cnf, bytes: &[u8], arena: &Bump) -> Result<(), LratFault>
+    requires formula { IsFormula cnf.now }
+    requires limit { length bytes.now ≤ 268435456 }
+    ensures ok { OnOk result (text_fault cnf.now bytes.now ≡ None) }
+    ensures err { IfErr result (λ fault. fault.why ≢ LratWhy.Memory → text_fault cnf.now bytes.now ≡ Some fault) }
+{
+    let mut checker = Checker::new(alloc, cnf, bytes.len(), arena)?;
+    let mut numbers = Numbers::new(alloc);
+    let mut at = 0;
+    let mut line = 0;
+    'more: while at < bytes.len() {
+        let end = line_end(bytes, at);
+        line += 1;
+        if let Err(why) = checker.check_line(&bytes[at..end], &mut numbers) {
+            return Err(LratFault { line, why });
+        }
+        at = end + 1;
+    }
+    checker.finish(line)
+}
