@@ -1,3 +1,9 @@
 pub mod FieldSays
 pub mod Refutes
 pub mod CheckSays
+pub mod Chain
+pub mod Commands
+pub mod Parses
+pub mod PlainWords
+pub mod Utf8Words
+pub mod Settled

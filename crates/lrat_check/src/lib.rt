@@ -8,9 +8,13 @@ mod check;
 mod fault;
 mod field;
 mod line;
+mod report;
+mod run;
 mod table;
 #[cfg(test)]
 mod tests;
+mod words;
 
 pub use check::check_text;
 pub use fault::{LratFault, LratWhy};
+pub use run::lrat_run;
