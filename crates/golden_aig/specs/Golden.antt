@@ -1,5 +1,6 @@
 -- The golden function: the value of each literal of a graph under a word.
 use Rattle.std.specs.Prelude.{◌≡◌, ℕ, zero, suc, ◌+◌, ◌-◌, ◌*◌, ◌/◌, ◌%◌, ◌<◌, ◌==◌, nat_lt, Bool, false, cond, not, ◌&&◌, List, slice_get, slice_index_or, Option, None, Some}
+use Rattle.golden_aig.specs.Aig.{variables_of}
 use Rattle.golden_aig.specs.declared.graph.Aig.{Aig}
 use Rattle.golden_aig.specs.declared.graph.And.{And}
 
@@ -30,9 +31,17 @@ value_of aig word variable = value_within (suc variable) aig word variable
 unfoldable pub golden : Aig → List Bool → ℕ → Bool
 golden aig word literal = literal_value (value_of aig word) literal
 
--- The values of all literals of a graph under a word, as equations: each is given by lower ones.
-pub record AreGoldenValues (aig : Aig) (word : List Bool) : Type 0 where
-  pub constant : golden aig word 0 ≡ false
-  pub negation : (variable : ℕ) → golden aig word (2 * variable + 1) ≡ not (golden aig word (2 * variable))
-  pub input : (place : ℕ) → place < aig.inputs → golden aig word (2 * (place + 1)) ≡ slice_index_or word place false
-  pub both : (place : ℕ) (one : And) → slice_get aig.ands place ≡ Some one → golden aig word one.lhs ≡ (golden aig word one.rhs0 && golden aig word one.rhs1)
+-- Values of all literals of a graph under a word, as equations: each is given by lower ones.
+pub record AreValues (aig : Aig) (word : List Bool) (value : ℕ → Bool) : Type 0 where
+  pub constant : value 0 ≡ false
+  pub negation : (variable : ℕ) → value (2 * variable + 1) ≡ not (value (2 * variable))
+  pub input : (place : ℕ) → place < aig.inputs → value (2 * (place + 1)) ≡ slice_index_or word place false
+  pub both : (place : ℕ) (one : And) → slice_get aig.ands place ≡ Some one → value one.lhs ≡ (value one.rhs0 && value one.rhs1)
+
+-- the golden values meet the equations
+abbrev pub AreGoldenValues : Aig → List Bool → Type 0
+AreGoldenValues aig word = AreValues aig word (golden aig word)
+
+-- whatever meets the equations is the golden value of each literal of the graph
+abbrev pub DetermineValues : Aig → List Bool → Type 0
+DetermineValues aig word = (value : ℕ → Bool) (literal : ℕ) → AreValues aig word value → literal < 2 * (variables_of aig + 1) → value literal ≡ golden aig word literal

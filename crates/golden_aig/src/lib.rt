@@ -13,6 +13,6 @@ mod pairing;
 
 pub use evaluation::eval;
 pub use graph::{Aig, And};
-pub use laws::golden_values;
+pub use laws::{golden_values, values_are_determined};
 pub use matching::match_ports;
 pub use pairing::{Match, PortFault};
