@@ -1,0 +1,221 @@
+-- When a source cannot be bound: one predicate for each cause, over the site where it stands.
+use Rattle.std.specs.Prelude.{◌≡◌, ◌≢◌, ◌⊎◌, ℕ, Bool, ◌<◌, List, [], ◌∷◌, length, slice_get, Option, Some, None}
+use Rattle.std.specs.List.{All, AllPairs, AllZip, Contains}
+use Rattle.verilog_tree.specs.Trees.{Module, Expr, Links, Ordered as OrderedLinks}
+use Rattle.verilog_sites.specs.Sites.{Operand, Site, Listed, Port, Wire, Assign, Instance, Named, Ordered, Assigned, Linked, Module as ModuleSite, sites}
+use Rattle.verilog_sites.specs.Selects.{width_of, bit_name, Selects}
+use Rattle.verilog_sites.specs.Scope.{IsAt, Stands, StandsBefore, IsPort, HasDirection, IsKnown, HasRange, ExprWidth}
+use Rattle.verilog_bind.specs.Modules.{Setting, IsModuleNamed, IsCellNamed, MeansModule, MeansCell, Instantiates, IsFree, IsTop, IsReached, HasPorts}
+
+-- A place in the text: a site of a module, both counted from 0.
+pub record Place : Type 0 where
+  pub at : ℕ
+  pub site : ℕ
+
+-- one place stands before another
+abbrev pub IsBefore : Place → Place → Type 0
+IsBefore one other = (one.at < other.at) ⊎ ((one.at ≡ other.at) × (one.site < other.site))
+
+-- the sites of the module at a place of the text
+pub record HasSites (setting : Setting) (at : ℕ) (all : List Site) : Type 0 where
+  pub owner : Module
+  pub there : slice_get setting.modules at ≡ Some owner
+  pub sites_are : all ≡ sites owner
+
+-- the sites of a module that the top reaches
+pub record HasReachedSites (setting : Setting) (at : ℕ) (all : List Site) : Type 0 where
+  pub reached : IsReached setting at
+  pub has : HasSites setting at all
+
+-- ---- one name for two things
+
+-- the sorts of things that have names of their own within a module
+pub data Sort : Type 0 where
+  PortSort : Sort
+  DirectionSort : Sort
+  WireSort : Sort
+  InstanceSort : Sort
+
+-- the sort and the name of the thing that a site gives a name to
+abbrev pub given : Site → Option (Sort × List ℕ)
+given (Listed name) = Some (PortSort, name)
+given (Port name output range) = Some (DirectionSort, name)
+given (Wire name range) = Some (WireSort, name)
+given (Instance kind name links) = Some (InstanceSort, name)
+given (ModuleSite name) = None
+given (Assign to from) = None
+given (Named kind name expr) = None
+given (Ordered kind place expr) = None
+given (Assigned operand) = None
+given (Linked operand) = None
+
+-- a site gives a thing a name that an earlier one of its sort has
+pub record IsAgain (all : List Site) (at : ℕ) (name : List ℕ) : Type 0 where
+  pub sort : Sort
+  pub site : Site
+  pub there : IsAt all at site
+  pub gives : given site ≡ Some (sort, name)
+  pub earlier : Site
+  pub stands : StandsBefore all at earlier
+  pub gives_too : given earlier ≡ Some (sort, name)
+
+-- the range of a port, by the first direction that it has
+pub record HasFirstRange (all : List Site) (name : List ℕ) (range : Option (ℕ × ℕ)) : Type 0 where
+  pub at : ℕ
+  pub output : Bool
+  pub there : IsAt all at (Port name output range)
+  pub first : (way : Bool) (other : Option (ℕ × ℕ)) → ¬ StandsBefore all at (Port name way other)
+
+-- a bit of a port that is listed before a place has this printed name
+pub record IsPrintedBefore (all : List Site) (at : ℕ) (printed : List ℕ) : Type 0 where
+  pub name : List ℕ
+  pub range : Option (ℕ × ℕ)
+  pub bit : ℕ
+  pub listed : StandsBefore all at (Listed name)
+  pub range_is : HasFirstRange all name range
+  pub within : bit < width_of range
+  pub printed_is : printed ≡ bit_name name range bit
+
+-- The first bit of a listed port whose printed name a bit of a port that is listed before has too. Ports of one name are told apart above.
+pub record IsBitAgain (all : List Site) (at : ℕ) (printed : List ℕ) : Type 0 where
+  pub name : List ℕ
+  pub range : Option (ℕ × ℕ)
+  pub bit : ℕ
+  pub listed : IsAt all at (Listed name)
+  pub alone : ¬ StandsBefore all at (Listed name)
+  pub range_is : HasFirstRange all name range
+  pub within : bit < width_of range
+  pub printed_is : printed ≡ bit_name name range bit
+  pub before : IsPrintedBefore all at printed
+  pub first : (earlier : ℕ) → earlier < bit → ¬ IsPrintedBefore all at (bit_name name range earlier)
+
+-- Two modules of one name, a module and a cell of one name, two things of one sort and name within a reached module, or two bits of the top's ports of one printed name.
+pub data IsDuplicate (setting : Setting) (place : Place) (name : List ℕ) : Type 0 where
+  OfModules : place.site ≡ 0 → IsModuleNamed setting place.at name → (earlier : ℕ) → earlier < place.at → IsModuleNamed setting earlier name → IsDuplicate setting place name
+  OfCell : place.site ≡ 0 → IsModuleNamed setting place.at name → (row : ℕ) → IsCellNamed setting row name → IsDuplicate setting place name
+  Within : (all : List Site) → HasReachedSites setting place.at all → IsAgain all place.site name → IsDuplicate setting place name
+  OfBits : (all : List Site) → IsTop setting place.at → HasSites setting place.at all → IsBitAgain all place.site name → IsDuplicate setting place name
+
+-- ---- the top
+
+-- the name of the top is no module's; without one, each module is instantiated
+abbrev pub HasNoTop : Setting → Option (List ℕ) → Type 0
+HasNoTop setting (Some name) = (at : ℕ) → ¬ IsModuleNamed setting at name
+HasNoTop setting None = (at : ℕ) → ¬ IsFree setting at
+
+-- without a name for the top: a module that is instantiated by none, and an earlier one
+pub record HasTwoTops (setting : Setting) (place : Place) (first second : List ℕ) : Type 0 where
+  pub unnamed : setting.top ≡ None
+  pub head : place.site ≡ 0
+  pub second_is : IsModuleNamed setting place.at second
+  pub free : IsFree setting place.at
+  pub earlier : ℕ
+  pub before : earlier < place.at
+  pub first_is : IsModuleNamed setting earlier first
+  pub free_too : IsFree setting earlier
+
+-- ---- kinds
+
+-- a name is that of a module or of a cell
+abbrev pub IsKind : Setting → List ℕ → Type 0
+IsKind setting name = ((at : ℕ) × IsModuleNamed setting at name) ⊎ ((row : ℕ) × IsCellNamed setting row name)
+
+pub record HasNoKind (setting : Setting) (place : Place) (kind : List ℕ) : Type 0 where
+  pub all : List Site
+  pub sites_are : HasReachedSites setting place.at all
+  pub name : List ℕ
+  pub links : Links
+  pub there : IsAt all place.site (Instance kind name links)
+  pub none : ¬ IsKind setting kind
+
+-- each module instantiates the next, and the last one the module `back`
+abbrev pub IsChain : Setting → ℕ → List ℕ → Type 0
+IsChain setting back [] = ⊥
+IsChain setting back (at ∷ []) = Instantiates setting at back
+IsChain setting back (at ∷ next ∷ rest) = Instantiates setting at next × IsChain setting back (next ∷ rest)
+
+-- Reached modules that instantiate each other in a ring, from the first in text order on, by their places and their names.
+pub record IsRing (setting : Setting) (place : Place) (names : List (List ℕ)) : Type 0 where
+  pub head : place.site ≡ 0
+  pub reached : IsReached setting place.at
+  pub others : List ℕ
+  pub later : All (λ at. place.at < at) others
+  pub once : AllPairs (λ one other. one ≢ other) others
+  pub chain : IsChain setting place.at (place.at ∷ others)
+  pub names_are : AllZip (IsModuleNamed setting) (place.at ∷ others) names
+
+-- ---- ports
+
+-- a listed port without a direction, a direction without a listed port, or a link by name without such a port
+pub data IsUnknownPort (setting : Setting) (all : List Site) (at : ℕ) (name : List ℕ) : Type 0 where
+  NoDirection : IsAt all at (Listed name) → ¬ HasDirection all name → IsUnknownPort setting all at name
+  NoListing : (output : Bool) (range : Option (ℕ × ℕ)) → IsAt all at (Port name output range) → ¬ Stands all (Listed name) → IsUnknownPort setting all at name
+  NoPort : (kind : List ℕ) (expr : Option Expr) (names : List (List ℕ)) → IsAt all at (Named kind name expr) → HasPorts setting kind names → ¬ Contains names name → IsUnknownPort setting all at name
+
+-- two links by name of one port, with no other instance between them
+pub record IsPortTwice (all : List Site) (at : ℕ) (name : List ℕ) : Type 0 where
+  pub kind : List ℕ
+  pub expr : Option Expr
+  pub there : IsAt all at (Named kind name expr)
+  pub earlier : ℕ
+  pub before : earlier < at
+  pub earlier_expr : Option Expr
+  pub there_too : IsAt all earlier (Named kind name earlier_expr)
+  pub together : (between : ℕ) (inner_kind inner_name : List ℕ) (links : Links) → earlier < between → between < at → ¬ IsAt all between (Instance inner_kind inner_name links)
+
+-- more links by order than the kind has ports
+pub record HasTooMany (setting : Setting) (all : List Site) (at have want : ℕ) : Type 0 where
+  pub kind : List ℕ
+  pub name : List ℕ
+  pub links : List (Option Expr)
+  pub names : List (List ℕ)
+  pub there : IsAt all at (Instance kind name (OrderedLinks links))
+  pub ports : HasPorts setting kind names
+  pub have_is : have ≡ length links
+  pub want_is : want ≡ length names
+  pub more : want < have
+
+-- ---- names and widths
+
+-- An operand of an assign, or a select in a link, of a name that is neither declared nor made by a link.
+pub data IsUnknownName (all : List Site) (at : ℕ) (name : List ℕ) : Type 0 where
+  InAssign : (select : Option (ℕ × ℕ)) → IsAt all at (Assigned (record { name = name; select = select })) → ¬ IsKnown all name → IsUnknownName all at name
+  InLink : (select : ℕ × ℕ) → IsAt all at (Linked (record { name = name; select = Some select })) → ¬ IsKnown all name → IsUnknownName all at name
+
+-- a select that no bits of the range are: outside it, against its direction, or of a scalar
+abbrev pub IsOutside : Option (ℕ × ℕ) → ℕ × ℕ → Type 0
+IsOutside None select = Unit {0}
+IsOutside (Some range) select = (bit count : ℕ) → ¬ Selects range select bit count
+
+-- an operand stands at a place, in an assign or in a link
+abbrev pub IsOperandAt : List Site → ℕ → Operand → Type 0
+IsOperandAt all at operand = IsAt all at (Assigned operand) ⊎ IsAt all at (Linked operand)
+
+-- A select outside the range of its name, or the later of a port's direction and its declaration as a wire, where the two have different ranges.
+pub data IsOutOfRange (all : List Site) (at : ℕ) (name : List ℕ) : Type 0 where
+  OfSelect : (select : ℕ × ℕ) (range : Option (ℕ × ℕ)) → IsOperandAt all at (record { name = name; select = Some select }) → HasRange all name range → IsOutside range select → IsOutOfRange all at name
+  OfWire : (output : Bool) (range other : Option (ℕ × ℕ)) → IsAt all at (Wire name range) → StandsBefore all at (Port name output other) → range ≢ other → IsOutOfRange all at name
+  OfPort : (output : Bool) (range other : Option (ℕ × ℕ)) → IsAt all at (Port name output range) → StandsBefore all at (Wire name other) → range ≢ other → IsOutOfRange all at name
+
+-- the width of a port of a kind, by its name: a cell's pin is one bit wide
+pub data PortWidth (setting : Setting) (kind name : List ℕ) (width : ℕ) : Type 0 where
+  OfModulePort : (at : ℕ) (all : List Site) (output : Bool) (range : Option (ℕ × ℕ)) → MeansModule setting kind at → HasSites setting at all → IsPort all name output range → width ≡ width_of range
+      → PortWidth setting kind name width
+  OfPin : (row : ℕ) → MeansCell setting kind row → width ≡ 1 → PortWidth setting kind name width
+
+-- the two sides of an assign, or of a link, and their widths
+pub data HasWidths (setting : Setting) (all : List Site) (at have want : ℕ) : Type 0 where
+  OfAssign : (to from : Expr) → IsAt all at (Assign to from) → ExprWidth all from have → ExprWidth all to want → HasWidths setting all at have want
+  OfNamed : (kind name : List ℕ) (expr : Expr) → IsAt all at (Named kind name (Some expr)) → ExprWidth all expr have → PortWidth setting kind name want → HasWidths setting all at have want
+  OfOrdered : (kind : List ℕ) (place : ℕ) (expr : Expr) (names : List (List ℕ)) (name : List ℕ) → IsAt all at (Ordered kind place (Some expr)) → ExprWidth all expr have
+      → HasPorts setting kind names → slice_get names place ≡ Some name → PortWidth setting kind name want → HasWidths setting all at have want
+
+-- a port that is wider than 4,096 bits
+pub record IsTooWide (all : List Site) (at width : ℕ) : Type 0 where
+  pub name : List ℕ
+  pub output : Bool
+  pub range : Option (ℕ × ℕ)
+  pub there : IsAt all at (Listed name)
+  pub port : IsPort all name output range
+  pub width_is : width ≡ width_of range
+  pub wide : 4096 < width

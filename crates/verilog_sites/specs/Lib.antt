@@ -1,0 +1,5 @@
+pub mod Sites
+pub mod Selects
+pub mod Scope
+pub mod View
+pub mod Listing

@@ -1,0 +1,10 @@
+//! The sites of a module of a Verilog source: all that stands in it, as one list in text order.
+//!
+//! [`Sites::of`] lists them. What a site is, and what the names of a module are by its sites, stands in `specs/`.
+#![tactic(auto)]
+
+mod listing;
+mod site;
+
+pub use listing::Sites;
+pub use site::{Operand, Site};
