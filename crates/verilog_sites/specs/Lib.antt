@@ -1,5 +1,6 @@
 pub mod Sites
 pub mod Selects
 pub mod Scope
+pub mod Again
 pub mod View
 pub mod Listing
