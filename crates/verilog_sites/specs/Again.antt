@@ -1,38 +1,63 @@
 -- One name for two things of a module.
-use Rattle.std.specs.Prelude.{◌≡◌, ℕ, ◌<◌, Bool, List, Option, Some, None}
+use Rattle.std.specs.Prelude.{◌≡◌, ℕ, ◌<◌, Bool, true, false, List, Option, Some, None}
+use Rattle.verilog_sites.specs.declared.sort.Sort.{Sort}
+use Rattle.verilog_sites.specs.declared.sort.Sort.TheVariants as sort
 use Rattle.verilog_sites.specs.Selects.{width_of, bit_name}
-use Rattle.verilog_sites.specs.Sites.{Site, Module, Listed, Port, Wire, Assign, Instance, Named, Ordered, Assigned, Linked}
+use Rattle.verilog_sites.specs.Sites.{Site, Listed, Port, Wire, Instance, Linked}
 use Rattle.verilog_sites.specs.Scope.{IsAt, StandsBefore}
 
--- the sorts of things that have names of their own within a module
-pub data Sort : Type 0 where
-  PortSort : Sort
-  DirectionSort : Sort
-  WireSort : Sort
-  InstanceSort : Sort
+-- the name of a listed port, of a direction, of a declaration as a wire, of an instance, or that stands whole in a link
+abbrev pub listed_name : Site → Option (List ℕ)
+listed_name (Listed name) = Some name
+listed_name _ = None
 
--- the sort and the name of the thing that a site gives a name to
-abbrev pub given : Site → Option (Sort × List ℕ)
-given (Listed name) = Some (PortSort, name)
-given (Port name output range) = Some (DirectionSort, name)
-given (Wire name range) = Some (WireSort, name)
-given (Instance kind name links) = Some (InstanceSort, name)
-given (Module name) = None
-given (Assign to from) = None
-given (Named kind name expr) = None
-given (Ordered kind place expr) = None
-given (Assigned operand) = None
-given (Linked operand) = None
+abbrev pub direction_name : Site → Option (List ℕ)
+direction_name (Port name output range) = Some name
+direction_name _ = None
 
--- a site gives a thing a name that an earlier one of its sort has
-pub record IsAgain (all : List Site) (at : ℕ) (name : List ℕ) : Type 0 where
-  pub sort : Sort
-  pub site : Site
-  pub there : IsAt all at site
-  pub gives : given site ≡ Some (sort, name)
-  pub earlier : Site
-  pub stands : StandsBefore all at earlier
-  pub gives_too : given earlier ≡ Some (sort, name)
+abbrev pub wire_name : Site → Option (List ℕ)
+wire_name (Wire name range) = Some name
+wire_name _ = None
+
+abbrev pub instance_name : Site → Option (List ℕ)
+instance_name (Instance kind name links) = Some name
+instance_name _ = None
+
+abbrev pub whole_name : List ℕ → Option (ℕ × ℕ) → Option (List ℕ)
+whole_name name None = Some name
+whole_name name (Some select) = None
+
+abbrev pub linked_name : Site → Option (List ℕ)
+linked_name (Linked operand) = whole_name operand.name operand.select
+linked_name _ = None
+
+-- the name that a site gives to a thing of a sort
+abbrev pub name_as : Sort → Site → Option (List ℕ)
+name_as sort.Listed site = listed_name site
+name_as sort.Direction site = direction_name site
+name_as sort.Wire site = wire_name site
+name_as sort.Instance site = instance_name site
+name_as sort.Linked site = linked_name site
+
+-- the site at a place gives the name to a thing of the sort
+abbrev pub Gives : Sort → List Site → ℕ → List ℕ → Type 0
+Gives by all at name = (site : Site) × IsAt all at site × (name_as by site ≡ Some name)
+
+-- and so does an earlier one
+abbrev pub IsAgainBy : Sort → List Site → ℕ → List ℕ → Type 0
+IsAgainBy by all at name = Gives by all at name × ((earlier : ℕ) × (earlier < at) × Gives by all earlier name)
+
+-- ports, directions, wires and instances have names of their own; a link may use a name again
+abbrev pub is_own : Sort → Bool
+is_own sort.Listed = true
+is_own sort.Direction = true
+is_own sort.Wire = true
+is_own sort.Instance = true
+is_own sort.Linked = false
+
+-- a thing is given the name that an earlier one of its sort has
+abbrev pub IsAgain : List Site → ℕ → List ℕ → Type 0
+IsAgain all at name = (by : Sort) × (is_own by ≡ true) × IsAgainBy by all at name
 
 -- the range of a port, by the first direction that it has
 pub record HasFirstRange (all : List Site) (name : List ℕ) (range : Option (ℕ × ℕ)) : Type 0 where

@@ -2,5 +2,6 @@ pub mod Sites
 pub mod Selects
 pub mod Scope
 pub mod Again
+pub mod Index
 pub mod View
 pub mod Listing

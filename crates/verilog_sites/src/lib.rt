@@ -5,6 +5,8 @@
 
 mod listing;
 mod site;
+mod sort;
 
 pub use listing::Sites;
 pub use site::{Operand, Site};
+pub use sort::Sort;

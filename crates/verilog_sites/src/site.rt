@@ -1,5 +1,9 @@
 //! What stands in a module, one thing at a time.
 
+ghost use Rattle.std.specs.Prelude.{◌≡◌};
+ghost use Rattle.std.specs.Option.{option_map};
+ghost use Rattle.verilog_sites.specs.Again.{whole_name};
+
 use verilog_tree::{Expr, Links};
 
 /// A name as it stands in an expression: whole, or with the bits that are selected, `(left, right)`. The bit `a[3]` is selected as
@@ -8,6 +12,18 @@ use verilog_tree::{Expr, Links};
 pub struct Operand<'a> {
     pub name: &'a str,
     pub select: Option<(u32, u32)>,
+}
+
+impl<'a> Operand<'a> {
+    /// The name, where it stands whole.
+    pub fn whole(&self) -> Option<&'a str>
+        ensures { option_map (λ name. name.now) result ≡ whole_name self.now.name.now self.now.select }
+    {
+        match self.select {
+            None => Some(self.name),
+            Some(_) => None,
+        }
+    }
 }
 
 /// A thing that stands in a module. `kind` is the name of an instance's kind.
