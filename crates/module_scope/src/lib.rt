@@ -2,5 +2,7 @@
 #![tactic(auto)]
 
 mod index;
+mod scope;
 
 pub use index::Index;
+pub use scope::Scope;
