@@ -1,3 +1,4 @@
 pub mod FirstPlaces
 pub mod Doubles
-pub mod Ranges
+pub mod NameRanges
+pub mod Known

@@ -1,8 +1,11 @@
 //! The names of one module: what each is, and which is given twice.
 #![tactic(auto)]
 
+mod checks;
 mod index;
+mod ranges;
 mod scope;
 
 pub use index::Index;
+pub use ranges::{select, width_of};
 pub use scope::Scope;

@@ -90,12 +90,6 @@ fn earlier<'a>(
     match (one, other) {
         (None, _) => other,
         (_, None) => one,
-        (Some(first), Some(second)) => {
-            if first.0 <= second.0 {
-                one
-            } else {
-                other
-            }
-        }
+        (Some(first), Some(second)) => { if first.0 <= second.0 { one } else { other } }
     }
 }

@@ -93,17 +93,6 @@ pub data IsUnknownPort (setting : Setting) (all : List Site) (at : ℕ) (name : 
   NoListing : (output : Bool) (range : Option (ℕ × ℕ)) → IsAt all at (Port name output range) → ¬ Stands all (Listed name) → IsUnknownPort setting all at name
   NoPort : (kind : List ℕ) (expr : Option Expr) (names : List (List ℕ)) → IsAt all at (Named kind name expr) → HasPorts setting kind names → ¬ Contains names name → IsUnknownPort setting all at name
 
--- two links by name of one port, with no other instance between them
-pub record IsPortTwice (all : List Site) (at : ℕ) (name : List ℕ) : Type 0 where
-  pub kind : List ℕ
-  pub expr : Option Expr
-  pub there : IsAt all at (Named kind name expr)
-  pub earlier : ℕ
-  pub before : earlier < at
-  pub earlier_expr : Option Expr
-  pub there_too : IsAt all earlier (Named kind name earlier_expr)
-  pub together : (between : ℕ) (inner_kind inner_name : List ℕ) (links : Links) → earlier < between → between < at → ¬ IsAt all between (Instance inner_kind inner_name links)
-
 -- more links by order than the kind has ports
 pub record HasTooMany (setting : Setting) (all : List Site) (at have want : ℕ) : Type 0 where
   pub kind : List ℕ
@@ -118,26 +107,6 @@ pub record HasTooMany (setting : Setting) (all : List Site) (at have want : ℕ)
 
 -- ---- names and widths
 
--- An operand of an assign, or a select in a link, of a name that is neither declared nor made by a link.
-pub data IsUnknownName (all : List Site) (at : ℕ) (name : List ℕ) : Type 0 where
-  InAssign : (select : Option (ℕ × ℕ)) → IsAt all at (Assigned (record { name = name; select = select })) → ¬ IsKnown all name → IsUnknownName all at name
-  InLink : (select : ℕ × ℕ) → IsAt all at (Linked (record { name = name; select = Some select })) → ¬ IsKnown all name → IsUnknownName all at name
-
--- a select that no bits of the range are: outside it, against its direction, or of a scalar
-abbrev pub IsOutside : Option (ℕ × ℕ) → ℕ × ℕ → Type 0
-IsOutside None select = Unit {0}
-IsOutside (Some range) select = (bit count : ℕ) → ¬ Selects range select bit count
-
--- an operand stands at a place, in an assign or in a link
-abbrev pub IsOperandAt : List Site → ℕ → Operand → Type 0
-IsOperandAt all at operand = IsAt all at (Assigned operand) ⊎ IsAt all at (Linked operand)
-
--- A select outside the range of its name, or the later of a port's direction and its declaration as a wire, where the two have different ranges.
-pub data IsOutOfRange (all : List Site) (at : ℕ) (name : List ℕ) : Type 0 where
-  OfSelect : (select : ℕ × ℕ) (range : Option (ℕ × ℕ)) → IsOperandAt all at (record { name = name; select = Some select }) → HasRange all name range → IsOutside range select → IsOutOfRange all at name
-  OfWire : (output : Bool) (range other : Option (ℕ × ℕ)) → IsAt all at (Wire name range) → StandsBefore all at (Port name output other) → range ≢ other → IsOutOfRange all at name
-  OfPort : (output : Bool) (range other : Option (ℕ × ℕ)) → IsAt all at (Port name output range) → StandsBefore all at (Wire name other) → range ≢ other → IsOutOfRange all at name
-
 -- the width of a port of a kind, by its name: a cell's pin is one bit wide
 pub data PortWidth (setting : Setting) (kind name : List ℕ) (width : ℕ) : Type 0 where
   OfModulePort : (at : ℕ) (all : List Site) (output : Bool) (range : Option (ℕ × ℕ)) → MeansModule setting kind at → HasSites setting at all → IsPort all name output range → width ≡ width_of range
@@ -150,13 +119,3 @@ pub data HasWidths (setting : Setting) (all : List Site) (at have want : ℕ) : 
   OfNamed : (kind name : List ℕ) (expr : Expr) → IsAt all at (Named kind name (Some expr)) → ExprWidth all expr have → PortWidth setting kind name want → HasWidths setting all at have want
   OfOrdered : (kind : List ℕ) (place : ℕ) (expr : Expr) (names : List (List ℕ)) (name : List ℕ) → IsAt all at (Ordered kind place (Some expr)) → ExprWidth all expr have
       → HasPorts setting kind names → slice_get names place ≡ Some name → PortWidth setting kind name want → HasWidths setting all at have want
-
--- a port that is wider than 4,096 bits
-pub record IsTooWide (all : List Site) (at width : ℕ) : Type 0 where
-  pub name : List ℕ
-  pub output : Bool
-  pub range : Option (ℕ × ℕ)
-  pub there : IsAt all at (Listed name)
-  pub port : IsPort all name output range
-  pub width_is : width ≡ width_of range
-  pub wide : 4096 < width

@@ -2,10 +2,11 @@
 use Rattle.std.specs.Prelude.{◌≡◌, ◌≢◌, ◌⊎◌, ℕ, List, [], ◌∷◌, ◌++◌}
 use Rattle.std.specs.List.{All}
 use Rattle.verilog_sites.specs.Sites.{Site}
+use Rattle.verilog_sites.specs.Refused.{IsPortTwice, IsUnknownName, IsOutOfRange, IsTooWide}
 use Rattle.verilog_bind.specs.declared.fault.BindFault.{BindFault}
 use Rattle.verilog_bind.specs.declared.fault.BindFault.TheVariants as fault
 use Rattle.verilog_bind.specs.Modules.{Setting}
-use Rattle.verilog_bind.specs.Faults.{Place, IsBefore, HasReachedSites, IsDuplicate, HasNoTop, HasTwoTops, HasNoKind, IsRing, IsUnknownPort, IsPortTwice, HasTooMany, IsUnknownName, IsOutOfRange, HasWidths, IsTooWide}
+use Rattle.verilog_bind.specs.Faults.{Place, IsBefore, HasReachedSites, IsDuplicate, HasNoTop, HasTwoTops, HasNoKind, IsRing, IsUnknownPort, HasTooMany, HasWidths}
 
 -- the causes
 pub data Line : Type 0 where

@@ -10,13 +10,13 @@ use Rattle.module_scope.proofs.scope.Scope.of.Goals as goal
 
 pub returns-clause-scope : goal.returns-clause-scope
 returns-clause-scope c = record {
-    listed = whole sort.Listed c.in_ok-listed.listed.names c.in_ok-listed.ensures.names;
-    directions = whole sort.Direction c.in_ok-directions.directions.names c.in_ok-directions.ensures.names;
-    wires = whole sort.Wire c.in_ok-wires.wires.names c.in_ok-wires.ensures.names;
-    linked = whole sort.Linked c.in_ok-linked.linked.names c.in_ok-linked.ensures.names
-  } where
-    whole : (by : Sort) (names : FirstNames) → AreFirst by (map view_site c.args.sites.now) (length c.args.sites.now) names → AreFirst by (map view_site c.args.sites.now) (length (map view_site c.args.sites.now)) names
-    whole by names h = subst (λ (n : ℕ). AreFirst by (map view_site c.args.sites.now) n names) (sym (length-map c.args.sites.now view_site)) h
+  listed = whole sort.Listed c.in_ok-listed.listed.names c.in_ok-listed.ensures.names;
+  directions = whole sort.Direction c.in_ok-directions.directions.names c.in_ok-directions.ensures.names;
+  wires = whole sort.Wire c.in_ok-wires.wires.names c.in_ok-wires.ensures.names;
+  linked = whole sort.Linked c.in_ok-linked.linked.names c.in_ok-linked.ensures.names;
+} where
+  whole : (by : Sort) (names : FirstNames) → AreFirst by (map view_site c.args.sites.now) (length c.args.sites.now) names → AreFirst by (map view_site c.args.sites.now) (length (map view_site c.args.sites.now)) names
+  whole by names h = subst (λ (n : ℕ). AreFirst by (map view_site c.args.sites.now) n names) (sym (length-map c.args.sites.now view_site)) h
 
 pub returns-clause-double : goal.returns-clause-double
 returns-clause-double c =

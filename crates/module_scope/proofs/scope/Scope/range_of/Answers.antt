@@ -3,7 +3,7 @@ use Rattle.verilog_sites.specs.declared.sort.Sort.TheVariants as sort
 use Rattle.verilog_sites.specs.Scope.{AsWire, AsLinked}
 use Rattle.first_names.specs.Places.{place_of}
 use Rattle.module_scope.specs.Scoped.{sites_of}
-use Rattle.module_scope.proofs.Ranges.{port_range, wire_stands, link_stands, no_direction, no_declaration, no_link, no_name, found, missed}
+use Rattle.module_scope.proofs.NameRanges.{port_range, wire_stands, link_stands, no_direction, no_declaration, no_link, no_name, found, missed}
 use Rattle.module_scope.proofs.scope.Scope.range_of.Goals as goal
 
 pub returns-in-Some-clause-known : goal.returns-in-Some-clause-known

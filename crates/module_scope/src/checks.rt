@@ -1,0 +1,61 @@
+//! What is refused of the names of a module, site by site.
+
+ghost use Rattle.std.specs.Prelude.{◌≡◌, ◌<◌, ◌↔◌, ℕ, List, length, Some, IfSome, IfNone, IsTrue};
+ghost use Rattle.std.specs.Option.{option_map};
+ghost use Rattle.verilog_sites.specs.Scope.{IsKnown, HasRange};
+ghost use Rattle.verilog_sites.specs.Refused.{IsUnknownName, IsOutside, IsOutOfRange, IsTooWide};
+ghost use Rattle.verilog_sites.specs.View.{view_site};
+ghost use Rattle.module_scope.specs.Scoped.{IsScope, HasNoDouble, sites_of};
+ghost use Rattle.module_scope.specs.Checked.{wanted_name, select_at, selected_name, select_of, IsRefusedSelect};
+
+use crate::ranges::{select, width_of};
+use crate::scope::Scope;
+use verilog_sites::{Operand, Site};
+
+/// The name of an operand of which bits are selected.
+fn selected_name<'a>(operand: Operand<'a>) -> Option<&'a str>
+    ensures { option_map (λ name. name.now) result ≡ selected_name operand.entry.name.now operand.entry.select }
+{
+    match operand.select {
+        Some(_) => Some(operand.name),
+        None => None,
+    }
+}
+
+/// The name that is to be known at a site.
+fn wanted_name<'a>(site: &Site<'a>) -> Option<&'a str>
+    ensures { option_map (λ name. name.now) result ≡ wanted_name (view_site site.now) }
+{
+    match site {
+        Site::Assigned(operand) => Some(operand.name),
+        Site::Linked(operand) => selected_name(*operand),
+        _ => None,
+    }
+}
+
+impl<'a> Scope<'a> {
+    /// The name that the site at a place uses and that is neither declared nor made by a link. A name that stands whole in a link makes itself.
+    pub fn unknown_name(&self, at: usize) -> Option<&'a str>
+        requires scope { IsScope self.now }
+        requires there { at < length (sites_of self.now) }
+        ensures found { IfSome result (λ name. IsUnknownName (sites_of self.now) at name.now) }
+        ensures none { IfNone result ((name : List ℕ) → ¬ IsUnknownName (sites_of self.now) at name) }
+    {
+        match wanted_name(&self.sites[at]) {
+            Some(name) => self.unless_known(name),
+            None => None,
+        }
+    }
+
+    /// The name, where it is neither declared nor made by a link.
+    fn unless_known(&self, name: &'a str) -> Option<&'a str>
+        requires { IsScope self.now }
+        ensures found { IfSome result (λ found. (found.now ≡ name.entry.now) × (¬ IsKnown (sites_of self.now) name.entry.now)) }
+        ensures none { IfNone result (IsKnown (sites_of self.now) name.entry.now) }
+    {
+        match self.range_of(name) {
+            Some(_) => None,
+            None => Some(name),
+        }
+    }
+}
