@@ -43,3 +43,24 @@ impl<'a> FirstNames<'a> {
         Ok(true)
     }
 }
+
+#[cfg(test)]
+mod tests {
+    use super::*;
+    use std::test::Fail;
+
+    #[test]
+    fn the_first_place_counts(rt: HostRuntime) -> Result<(), Fail> {
+        let mut names = FirstNames::new(rt.alloc());
+        for (name, place, new) in [("b", 0, true), ("a", 1, true), ("b", 2, false)] {
+            match names.see(name, place) {
+                Ok(answer) => assert_eq!(rt; answer, new),
+                Err(_) => panic!(rt; "no memory"),
+            }
+        }
+        assert_eq!(rt; names.find("b"), Some(0));
+        assert_eq!(rt; names.find("a"), Some(1));
+        assert_eq!(rt; names.find("ab"), None);
+        Ok(())
+    }
+}

@@ -8,7 +8,6 @@ ghost use Rattle.verilog_sites.specs.View.{view_site};
 ghost use Rattle.module_scope.specs.Scoped.{IsScope, HasNoDouble, sites_of};
 ghost use Rattle.module_scope.specs.Checked.{wanted_name, select_at, selected_name, select_of, IsRefusedSelect};
 
-use crate::ranges::{select, width_of};
 use crate::scope::Scope;
 use verilog_sites::{Operand, Site};
 

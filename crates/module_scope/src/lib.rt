@@ -9,3 +9,6 @@ mod scope;
 pub use index::Index;
 pub use ranges::{select, width_of};
 pub use scope::Scope;
+
+#[cfg(test)]
+mod tests;

@@ -10,3 +10,6 @@ mod sort;
 pub use listing::Sites;
 pub use site::{Operand, Site};
 pub use sort::Sort;
+
+#[cfg(test)]
+mod tests;
