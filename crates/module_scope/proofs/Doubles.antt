@@ -1,5 +1,5 @@
 -- The first place of several sorts that gives a name again.
-use Rattle.std.proofs.Common.{◌≡◌, ◌⊎◌, inl, inr, ℕ, ◌<◌, ◌≤◌, Bool, true, false, nat_le, List, Option, Some, None, MatchOption, refl, arith, rules, sym, subst, Bor}
+use Rattle.std.proofs.Common.{◌≡◌, ◌⊎◌, inl, inr, ℕ, ◌<◌, ◌≤◌, Bool, true, false, nat_le, List, Option, Some, None, MatchOption, refl, arith, rules, Bor}
 use Rattle.std.specs.Option.{option_map}
 use Rattle.std.specs.Bool.{if◌then◌else◌}
 use Rattle.verilog_sites.specs.declared.sort.Sort.{Sort}
@@ -7,7 +7,7 @@ use Rattle.verilog_sites.specs.declared.sort.Sort.TheVariants as sort
 use Rattle.verilog_sites.specs.Sites.{Site}
 use Rattle.verilog_sites.specs.Again.{is_own, IsAgainBy, IsAgain}
 use Rattle.verilog_sites.specs.Index.{IsFirstAgain}
-use Rattle.module_scope.specs.Scoped.{earlier, IsFirstDouble, HasNoDouble}
+use Rattle.module_scope.specs.Scoped.{earlier}
 
 -- nothing of a kind stands before a limit
 abbrev None_of : (ℕ → List ℕ → Type 0) → ℕ → Type 0

@@ -1,5 +1,5 @@
 -- Names that are known, and sites that want one.
-use Rattle.std.proofs.Common.{◌≡◌, ◌⊎◌, inl, inr, ℕ, ◌<◌, List, length, map, get_or, Option, Some, None, refl, sym, ◌∙◌, ap, subst, IfSome, IfNone, Bor}
+use Rattle.std.proofs.Common.{◌≡◌, inl, inr, ℕ, ◌<◌, List, length, map, get_or, Option, Some, None, sym, ◌∙◌, ap, subst, IfSome, IfNone, Bor}
 use Rattle.std.proofs.lemmas.List.{length-map}
 use Rattle.verilog_sites.specs.declared.site.Site.{Site as CodeSite}
 use Rattle.verilog_sites.specs.View.{view_site}

@@ -1,11 +1,11 @@
 -- What the first places of names say of their ranges.
-use Rattle.std.proofs.Common.{◌≡◌, ◌⊎◌, inl, inr, ℕ, ◌<◌, Bool, List, Option, Some, None, length, refl, sym, ◌∙◌, ap, subst}
+use Rattle.std.proofs.Common.{◌≡◌, inl, inr, ℕ, ◌<◌, Bool, List, Option, Some, None, length, refl, sym, ◌∙◌, ap, subst}
 use Rattle.verilog_sites.specs.declared.sort.Sort.{Sort}
 use Rattle.verilog_sites.specs.declared.sort.Sort.TheVariants as sort
 use Rattle.verilog_sites.specs.Sites.{Operand, Site, Module, Listed, Port, Wire, Assign, Instance, Named, Ordered, Assigned, Linked}
 use Rattle.std.proofs.lemmas.Option.{slice_get_within}
-use Rattle.verilog_sites.specs.Scope.{IsAt, Stands, IsPort, HasDirection, HasDeclaration, IsLinked, IsKnown, HasRange, AsPort, AsWire, AsLinked}
-use Rattle.verilog_sites.specs.Again.{name_as, direction_name, wire_name, linked_name, whole_name, Gives}
+use Rattle.verilog_sites.specs.Scope.{IsAt, Stands, HasDirection, HasDeclaration, IsLinked, IsKnown, HasRange, AsPort}
+use Rattle.verilog_sites.specs.Again.{direction_name, wire_name, linked_name, whole_name, Gives}
 use Rattle.verilog_sites.specs.Index.{IsNotGiven, IsFirstPlace}
 use Rattle.module_scope.specs.Scoped.{Declares, declared_range}
 

@@ -1,8 +1,8 @@
 -- What the tests of a module's names look at.
-use Rattle.std.specs.Prelude.{◌≡◌, ◌≢◌, ℕ, ◌<◌, List, Option, Some, None}
+use Rattle.std.specs.Prelude.{◌≢◌, ℕ, ◌<◌, List, Option, Some, None}
 use Rattle.verilog_sites.specs.declared.sort.Sort.{Sort}
-use Rattle.verilog_sites.specs.Sites.{Site, Listed, Assigned, Linked}
-use Rattle.verilog_sites.specs.Scope.{IsKnown, HasRange}
+use Rattle.verilog_sites.specs.Sites.{Site, Assigned, Linked}
+use Rattle.verilog_sites.specs.Scope.{HasRange}
 use Rattle.verilog_sites.specs.Again.{Gives}
 use Rattle.verilog_sites.specs.Refused.{IsOutside}
 use Rattle.module_scope.specs.Scoped.{Declares}

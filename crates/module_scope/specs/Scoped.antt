@@ -1,6 +1,5 @@
 -- The names of a module, as the code holds them.
 use Rattle.std.specs.Prelude.{◌≡◌, ℕ, ◌<◌, nat_le, if◌then◌else◌, List, map, length, Option, Some, None, MatchOption}
-use Rattle.std.specs.Option.{option_map}
 use Rattle.verilog_sites.specs.declared.sort.Sort.TheVariants as sort
 use Rattle.verilog_sites.specs.Sites.{Site, Port, Wire}
 use Rattle.verilog_sites.specs.Scope.{IsAt}

@@ -32,7 +32,7 @@ fn wanted_name<'a>(site: &Site<'a>) -> Option<&'a str>
     }
 }
 
-impl<'a> Scope<'a> {
+impl<'a> Scope<'_, 'a> {
     /// The name that the site at a place uses and that is neither declared nor made by a link. A name that stands whole in a link makes itself.
     pub fn unknown_name(&self, at: usize) -> Option<&'a str>
         requires scope { IsScope self.now }

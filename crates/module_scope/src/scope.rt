@@ -14,8 +14,8 @@ use verilog_sites::{Site, Sort};
 
 /// The names of a module, each with its first place in the sites as a listed port, a direction, a wire and a whole name in a link.
 #[derive(Debug, Drop)]
-pub struct Scope<'a> {
-    pub sites: &'a [Site<'a>],
+pub struct Scope<'s, 'a> {
+    pub sites: &'s [Site<'a>],
     pub listed: FirstNames<'a>,
     pub directions: FirstNames<'a>,
     pub wires: FirstNames<'a>,
@@ -24,9 +24,9 @@ pub struct Scope<'a> {
     pub double: Option<(usize, &'a str)>,
 }
 
-impl<'a> Scope<'a> {
+impl<'s, 'a> Scope<'s, 'a> {
     /// The names of a module, by its sites.
-    pub fn of(alloc: Global, sites: &'a [Site<'a>]) -> Result<Scope<'a>, NoMemory>
+    pub fn of(alloc: Global, sites: &'s [Site<'a>]) -> Result<Scope<'s, 'a>, NoMemory>
         ensures scope { IfOk result IsScope }
         ensures sites { IfOk result (λ scope. sites_of scope ≡ map view_site sites.entry.now) }
         ensures double { IfOk result (λ scope. IsFirstDouble (map view_site sites.entry.now) (option_map (λ (at, name). (at, name.now)) scope.double)) }

@@ -1,4 +1,4 @@
-use Rattle.std.proofs.Common.{◌≡◌, ℕ, map, length, sym, subst}
+use Rattle.std.proofs.Common.{ℕ, map, length, sym, subst}
 use Rattle.std.proofs.lemmas.List.{length-map}
 use Rattle.verilog_sites.specs.declared.sort.Sort.{Sort}
 use Rattle.verilog_sites.specs.declared.sort.Sort.TheVariants as sort

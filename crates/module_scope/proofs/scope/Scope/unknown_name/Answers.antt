@@ -1,4 +1,4 @@
-use Rattle.std.proofs.Common.{◌≡◌, sym}
+use Rattle.std.proofs.Common.{sym}
 use Rattle.verilog_sites.specs.View.{view_site}
 use Rattle.module_scope.specs.Scoped.{sites_of}
 use Rattle.module_scope.proofs.Known.{site_there, unknown_found, unknown_none, unwanted}
