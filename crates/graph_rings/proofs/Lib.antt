@@ -1,0 +1,13 @@
+pub mod Lists
+pub mod Walks
+pub mod Marks
+pub mod Dropping
+pub mod Entering
+pub mod Looking
+pub mod Closing
+pub mod Tops
+pub mod Results
+pub mod Stepping
+pub mod Firsts
+pub mod Finishing
+pub mod Touring
