@@ -1,0 +1,6 @@
+pub mod Places
+pub mod Numbers
+pub mod Drives
+pub mod Names
+pub mod Circuit
+pub mod Refusal

@@ -1,0 +1,6 @@
+//! The places of a bound source that is written out, what drives them, and what its circuit is.
+#![tactic(auto)]
+
+mod laws;
+
+pub use laws::{places_are_counted, places_are_numbered};
