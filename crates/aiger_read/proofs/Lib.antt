@@ -5,3 +5,7 @@ pub mod WellFormed
 pub mod Numbers
 pub mod Groups
 pub mod AndLaws
+pub mod Marks
+pub mod More
+pub mod Listings
+pub mod Both

@@ -2,7 +2,7 @@
 use Rattle.std.proofs.Common.{◌≡◌, ◌≢◌, ◌∙◌, ◌<◌, ◌≤◌, ◌+◌, ◌-◌, ◌*◌, ◌==◌, ℕ, Bool, cond, true, false, zero, suc, refl, ap, sym, subst, arith, List, [], ◌∷◌, length, drop, take, get_or, Option, None, Some, Result, Ok, Err, zero-add}
 use Rattle.std.specs.Prelude.{nat_lt, replicate, slice_get, ◌||◌}
 use Rattle.std.specs.Option.{option_map}
-use Rattle.std.proofs.lemmas.Bool.{ltb-false, eqb-true, eqb-false}
+use Rattle.std.proofs.lemmas.Bool.{ltb-false, leb-true, eqb-true, eqb-false}
 use Rattle.std.proofs.lemmas.Option.{slice_get_within, get_or_from_slice_get}
 use Rattle.std.proofs.lemmas.List.{length-set, length-replicate}
 use Rattle.golden_aig.specs.declared.graph.Aig.{Aig}
@@ -12,7 +12,9 @@ use Rattle.aiger_read.specs.declared.fault.Stop.{Stop}
 use Rattle.aiger_read.specs.declared.header.Header.{Header}
 use Rattle.aiger_read.specs.declared.fault.AigerWhy.TheVariants as why
 use Rattle.aiger_read.specs.Reading.{◌>>=◌, fault, literal_at, and_at, many_at, number_at, field_at, line_end_at, difference_at}
-use Rattle.aiger_read.specs.Header.{header_at, has_head, variables_at, counts_at, zeros_at, spaces_in}
+use Rattle.aiger_read.specs.Header.{header_at, has_head, fits_form, variables_at, latches_at, counts_at, zeros_at, spaces_in}
+use Rattle.aiger_read.specs.declared.header.Form.{Form}
+use Rattle.aiger_read.specs.declared.header.Form.TheVariants as form
 use Rattle.aiger_read.specs.Symbols.{Entries, symbol_of, with_symbol, put_free, with_line, line_at, line_or, ends_symbols, symbols_at, line_length}
 use Rattle.aiger_read.specs.Graph.{graph_at}
 
@@ -101,24 +103,39 @@ literal_ok top bytes x e =
     let same : number.0.0 ≡ x.0 = ap (λ (p : ℕ × List ℕ). p.0) is in
     omega arith
 
-pub header_ok : (bytes : List ℕ) (x : Header × List ℕ) → header_at bytes ≡ Ok x → x.0.inputs + x.0.ands ≤ 1000000
+fits : (form : Form) (h : Header) → fits_form form h ≡ true → h.inputs + h.ands ≤ h.variables
+fits form.Ascii h e = leb-true (h.inputs + h.ands) h.variables e
+fits form.Binary h e = let same : h.variables ≡ h.inputs + h.ands = eqb-true h.variables (h.inputs + h.ands) e in omega arith
+
+counts_ok : (variables : ℕ) (bytes : List ℕ) (x : Header × List ℕ) → counts_at variables bytes ≡ Ok x → x.0.variables ≡ variables
+unfolding counts_at
+counts_ok variables bytes x e =
+    let inputs = bind_ok (field_at bytes) (λ inputs. latches_at inputs.1 >>= λ rest. field_at rest >>= λ outputs. field_at outputs.1 >>= λ ands.
+    Ok (record { variables = variables; inputs = inputs.0; outputs = outputs.0; ands = ands.0 }, ands.1)) x e in
+    let rest = bind_ok (latches_at inputs.0.1) (λ rest. field_at rest >>= λ outputs. field_at outputs.1 >>= λ ands. Ok (record { variables = variables; inputs = inputs.0.0; outputs = outputs.0; ands = ands.0 }, ands.1)) x inputs.2 in
+    let outputs = bind_ok (field_at rest.0) (λ outputs. field_at outputs.1 >>= λ ands. Ok (record { variables = variables; inputs = inputs.0.0; outputs = outputs.0; ands = ands.0 }, ands.1)) x rest.2 in
+    let ands = bind_ok (field_at outputs.0.1) (λ ands. Ok (record { variables = variables; inputs = inputs.0.0; outputs = outputs.0.0; ands = ands.0 }, ands.1)) x outputs.2 in
+    let made : Header × List ℕ = (record { variables = variables; inputs = inputs.0.0; outputs = outputs.0.0; ands = ands.0.0 }, ands.0.1) in
+    sym (ap (λ (p : Header × List ℕ). p.0.variables) (same_value made x ands.2))
+
+pub header_ok : (form : Form) (bytes : List ℕ) (x : Header × List ℕ) → header_at form bytes ≡ Ok x → (x.0.variables ≤ 1000000) × (x.0.inputs + x.0.ands ≤ x.0.variables)
 unfolding header_at
-header_ok bytes x e =
-    let variables = bind_ok (cond (has_head bytes) (variables_at (drop 4 bytes)) (Err (fault why.Header bytes))) (λ variables. counts_at variables.1 >>= λ counts. zeros_at (spaces_in bytes - 5) counts.1 >>= λ behind.
-    cond (variables.0 == counts.0.inputs + counts.0.ands) (Ok (counts.0, behind)) (Err (fault why.Header bytes))) x e in
-    let counts = bind_ok (counts_at variables.0.1) (λ counts. zeros_at (spaces_in bytes - 5) counts.1 >>= λ behind.
-    cond (variables.0.0 == counts.0.inputs + counts.0.ands) (Ok (counts.0, behind)) (Err (fault why.Header bytes))) x variables.2 in
-    let behind = bind_ok (zeros_at (spaces_in bytes - 5) counts.0.1) (λ behind. cond (variables.0.0 == counts.0.0.inputs + counts.0.0.ands) (Ok (counts.0.0, behind)) (Err (fault why.Header bytes))) x counts.2 in
-    let last = when_ok (variables.0.0 == counts.0.0.inputs + counts.0.0.ands) (fault why.Header bytes) (Ok (counts.0.0, behind.0)) x behind.2 in
-    let sum : variables.0.0 ≡ counts.0.0.inputs + counts.0.0.ands = eqb-true variables.0.0 (counts.0.0.inputs + counts.0.0.ands) last.0 in
+header_ok form bytes x e =
+    let variables = bind_ok (cond (has_head form bytes) (variables_at (drop 4 bytes)) (Err (fault why.Header bytes))) (λ variables. counts_at variables.0 variables.1 >>= λ counts. zeros_at (spaces_in bytes - 5) counts.1 >>= λ behind.
+    cond (fits_form form counts.0) (Ok (counts.0, behind)) (Err (fault why.Header bytes))) x e in
+    let counts = bind_ok (counts_at variables.0.0 variables.0.1) (λ counts. zeros_at (spaces_in bytes - 5) counts.1 >>= λ behind.
+    cond (fits_form form counts.0) (Ok (counts.0, behind)) (Err (fault why.Header bytes))) x variables.2 in
+    let behind = bind_ok (zeros_at (spaces_in bytes - 5) counts.0.1) (λ behind. cond (fits_form form counts.0.0) (Ok (counts.0.0, behind)) (Err (fault why.Header bytes))) x counts.2 in
+    let last = when_ok (fits_form form counts.0.0) (fault why.Header bytes) (Ok (counts.0.0, behind.0)) x behind.2 in
     let is : counts.0.0 ≡ x.0 = ap (λ (p : Header × List ℕ). p.0) (same_value (counts.0.0, behind.0) x last.1) in
-    let head = when_ok (has_head bytes) (fault why.Header bytes) (variables_at (drop 4 bytes)) variables.0 variables.1 in
+    let head = when_ok (has_head form bytes) (fault why.Header bytes) (variables_at (drop 4 bytes)) variables.0 variables.1 in
     let field = bind_ok (field_at (drop 4 bytes)) (λ n. cond (nat_lt 1000000 n.0) (Err (fault (why.Limit n.0) (drop 4 bytes))) (Ok (n.0, n.1))) variables.0 head.1 in
     let limit = unless_ok (nat_lt 1000000 field.0.0) (fault (why.Limit field.0.0) (drop 4 bytes)) (Ok (field.0.0, field.0.1)) variables.0 field.2 in
     let le : field.0.0 ≤ 1000000 = ltb-false 1000000 field.0.0 limit.0 in
     let same : field.0.0 ≡ variables.0.0 = ap (λ (p : ℕ × List ℕ). p.0) (same_value (field.0.0, field.0.1) variables.0 limit.1) in
-    let small : counts.0.0.inputs + counts.0.0.ands ≤ 1000000 = omega arith in
-    subst (λ (h : Header). h.inputs + h.ands ≤ 1000000) is small
+    let top : counts.0.0.variables ≡ variables.0.0 = counts_ok variables.0.0 variables.0.1 counts.0 counts.1 in
+    let small : counts.0.0.variables ≤ 1000000 = omega arith in
+    subst (λ (h : Header). (h.variables ≤ 1000000) × (h.inputs + h.ands ≤ h.variables)) is (small, fits form counts.0.0 last.0)
 
 symbol_put : (entries more : Entries) (s : Option (ℕ × List ℕ)) → with_symbol entries s ≡ Some more → length more ≡ length entries
 symbol_put entries more None e = absurd cc
@@ -208,7 +225,7 @@ made_ok h ands outputs ins outs small lines low count gates in_count out_count =
 pub graph_ok : (bytes : List ℕ) (aig : Aig) → graph_at bytes ≡ Ok aig → IsAig aig
 unfolding graph_at
 graph_ok bytes aig e =
-    let head = bind_ok (header_at bytes) (λ head. many_at (λ place. literal_at (2 * (head.0.inputs + head.0.ands) + 1)) 0 head.0.outputs head.1 >>= λ outputs. many_at (λ place. and_at (2 * (head.0.inputs + place + 1))) 0 head.0.ands outputs.1 >>= λ ands.
+    let head = bind_ok (header_at form.Binary bytes) (λ head. many_at (λ place. literal_at (2 * (head.0.inputs + head.0.ands) + 1)) 0 head.0.outputs head.1 >>= λ outputs. many_at (λ place. and_at (2 * (head.0.inputs + place + 1))) 0 head.0.ands outputs.1 >>= λ ands.
     symbols_at (length ands.1) (replicate head.0.inputs None, replicate head.0.outputs None) ands.1 >>= λ names. Ok (record { inputs = head.0.inputs; ands = ands.0; outputs = outputs.0; in_names = names.0; out_names = names.1 })) aig e in
     let h : Header = head.0.0 in
     let outputs = bind_ok (many_at (λ place. literal_at (2 * (h.inputs + h.ands) + 1)) 0 h.outputs head.0.1) (λ outputs. many_at (λ place. and_at (2 * (h.inputs + place + 1))) 0 h.ands outputs.1 >>= λ ands.
@@ -217,7 +234,7 @@ graph_ok bytes aig e =
     symbols_at (length ands.1) (replicate h.inputs None, replicate h.outputs None) ands.1 >>= λ names. Ok (record { inputs = h.inputs; ands = ands.0; outputs = outputs.0.0; in_names = names.0; out_names = names.1 })) aig outputs.2 in
     let names = bind_ok (symbols_at (length ands.0.1) (replicate h.inputs None, replicate h.outputs None) ands.0.1) (λ names. Ok (record { inputs = h.inputs; ands = ands.0.0; outputs = outputs.0.0; in_names = names.0; out_names = names.1 })) aig ands.2 in
     let made : Aig = record { inputs = h.inputs; ands = ands.0.0; outputs = outputs.0.0; in_names = names.0.0; out_names = names.0.1 } in
-    let small : h.inputs + h.ands ≤ 1000000 = header_ok bytes head.0 head.1 in
+    let small : h.inputs + h.ands ≤ 1000000 = (let ok = header_ok form.Binary bytes head.0 head.1 in let low = ok.0 in let high = ok.1 in omega arith) in
     let lines = many_ok (λ place l. l ≤ 2 * (h.inputs + h.ands) + 1) (λ place. literal_at (2 * (h.inputs + h.ands) + 1)) (λ place bs x is. literal_ok (2 * (h.inputs + h.ands) + 1) bs x is) h.outputs 0 head.0.1 outputs.0 outputs.1 in
     let gates = many_ok (IsAndAt h.inputs) (λ place. and_at (2 * (h.inputs + place + 1))) (λ place bs x is. and_at_place h.inputs place x.0 (and_ok (2 * (h.inputs + place + 1)) bs x is)) h.ands 0 outputs.0.1 ands.0 ands.1 in
     let kept = symbols_ok (length ands.0.1) (replicate h.inputs None, replicate h.outputs None) names.0 ands.0.1 names.1 in

@@ -5,13 +5,14 @@ use Rattle.aiger_read.specs.declared.fault.AigerWhy.TheVariants as why
 use Rattle.aiger_read.specs.declared.fault.AigerFault.{AigerFault}
 use Rattle.aiger_read.specs.declared.fault.Stop.{Stop}
 use Rattle.aiger_read.specs.Reading.{◌>>=◌, literal_at, and_at, many_at}
+use Rattle.aiger_read.specs.declared.header.Form.TheVariants as form
 use Rattle.aiger_read.specs.Header.{header_at}
 use Rattle.aiger_read.specs.Symbols.{symbols_at}
 
 -- The header, so many output lines, so many ANDs, and the symbols.
 unfoldable pub graph_at : List ℕ → Result Aig Stop
 graph_at bytes = do
-  head ← header_at bytes
+  head ← header_at form.Binary bytes
   outputs ← many_at (λ place. literal_at (2 * (head.0.inputs + head.0.ands) + 1)) 0 head.0.outputs head.1
   ands ← many_at (λ place. and_at (2 * (head.0.inputs + place + 1))) 0 head.0.ands outputs.1
   names ← symbols_at (length ands.1) (replicate head.0.inputs None, replicate head.0.outputs None) ands.1

@@ -7,7 +7,7 @@ ghost use Rattle.aiger_read.specs.Graph.{graph_at, ReadsAs, IsRefusal};
 
 use crate::ands::take_ands;
 use crate::fault::{AigerFault, AigerWhy, ReadStop};
-use crate::header::take_header;
+use crate::header::{Form, take_header};
 use crate::outputs::take_outputs;
 use crate::symbols::take_symbols;
 use golden_aig::Aig;
@@ -19,7 +19,7 @@ use std::alloc::Global;
 fn take_graph(alloc: Global, bytes: &[u8]) -> Result<Aig, ReadStop>
     ensures { Gives (λ x. x) result (graph_at bytes.now) }
 {
-    let (header, rest) = take_header(bytes)?;
+    let (header, rest) = take_header(Form::Binary, bytes)?;
     let top = 2 * (header.inputs + header.ands) + 1;
     let (outputs, rest) = take_outputs(alloc, top, header.outputs, rest)?;
     let (ands, rest) = take_ands(alloc, header.inputs, header.ands, rest)?;
@@ -37,7 +37,8 @@ fn take_graph(alloc: Global, bytes: &[u8]) -> Result<Aig, ReadStop>
 ///
 /// # Errors
 ///
-/// The first fault from the left, with its place; for what each says see [`AigerWhy`]. `Memory` may come of any file.
+/// The fault with the least place, which is answered with it; for what each says see [`AigerWhy`]. The first line is checked before the
+/// rest, from the left, and last of it the rule on M. `Memory` may come of any file.
 pub fn read_binary(alloc: Global, bytes: &[u8]) -> Result<Aig, AigerFault>
     requires { length bytes.now < 2 ^ 32 }
     ensures reads { IfOk result (λ aig. ReadsAs bytes.now aig) }

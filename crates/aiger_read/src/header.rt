@@ -1,15 +1,25 @@
-//! The first line of a binary file: `aig M I L O A`, and at most four further numbers.
+//! The first line of a file: `aag M I L O A` or `aig M I L O A`, and at most four further numbers.
 
 ghost use Rattle.std.specs.Prelude.{◌≡◌, ◌≤◌, ◌+◌, length, IfOk};
 ghost use Rattle.aiger_read.specs.Reading.{Gives};
-ghost use Rattle.aiger_read.specs.Header.{spaces_in, has_head, zeros_at, variables_at, latches_at, counts_at, header_at};
+ghost use Rattle.aiger_read.specs.Header.{spaces_in, has_head, fits_form, zeros_at, variables_at, latches_at, counts_at, header_at};
 
 use crate::fault::{AigerWhy, ReadStop, Stop};
 use crate::fields::take_field;
 
-/// How many inputs, outputs and ANDs a file has.
+/// The two forms of a file.
+#[derive(Clone, Copy, Debug, PartialEq, Eq)]
+pub(crate) enum Form {
+    /// In lines of digits: `aag`. There may be more variables than inputs and ANDs.
+    Ascii,
+    /// In bytes: `aig`. The variables are those of the inputs and the ANDs.
+    Binary,
+}
+
+/// The highest variable of a file, and how many inputs, outputs and ANDs it has.
 #[derive(Clone, Copy, Debug, PartialEq, Eq, Drop)]
 pub(crate) struct Header {
+    pub(crate) variables: u32,
     pub(crate) inputs: u32,
     pub(crate) outputs: u32,
     pub(crate) ands: u32,
@@ -31,12 +41,27 @@ fn count_spaces(bytes: &[u8]) -> usize
     count
 }
 
-/// Whether the first line begins with the word and has five to nine fields behind it.
-fn begins_file(bytes: &[u8]) -> bool
-    ensures { result ≡ has_head bytes.now }
+/// Whether the first line begins with the word of its form and has five to nine fields behind it.
+fn begins_file(form: Form, bytes: &[u8]) -> bool
+    ensures { result ≡ has_head form bytes.now }
 {
     let spaces = count_spaces(bytes);
-    bytes.starts_with(b"aig ") && 5 <= spaces && spaces <= 9
+    let begins = match form {
+        Form::Ascii => bytes.starts_with(b"aag "),
+        Form::Binary => bytes.starts_with(b"aig "),
+    };
+    begins && 5 <= spaces && spaces <= 9
+}
+
+/// Whether a file of the form may have so many variables beside its inputs and ANDs.
+fn fits_form(form: Form, header: Header) -> bool
+    ensures { result ≡ fits_form form header }
+{
+    let defined = u64::from(header.inputs) + u64::from(header.ands);
+    match form {
+        Form::Ascii => defined <= u64::from(header.variables),
+        Form::Binary => u64::from(header.variables) == defined,
+    }
 }
 
 /// So many fields that are 0.
@@ -87,14 +112,16 @@ fn take_latches(bytes: &[u8]) -> Result<&[u8], ReadStop>
 
 /// The numbers of inputs, latches, outputs and ANDs.
 #[tactic(auto, unfolding(crate::specs::Header::counts_at))]
-fn take_counts(bytes: &[u8]) -> Result<(Header, &[u8]), ReadStop>
-    ensures { Gives (λ x. (x.0, x.1.now)) result (counts_at bytes.now) }
+fn take_counts(variables: u32, bytes: &[u8]) -> Result<(Header, &[u8]), ReadStop>
+    ensures is { Gives (λ x. (x.0, x.1.now)) result (counts_at variables bytes.now) }
+    ensures top { IfOk result (λ x. x.0.variables ≡ variables) }
 {
     let (inputs, rest) = take_field(bytes)?;
     let rest = take_latches(rest)?;
     let (outputs, rest) = take_field(rest)?;
     let (ands, rest) = take_field(rest)?;
     let header = Header {
+        variables,
         inputs,
         outputs,
         ands,
@@ -104,20 +131,21 @@ fn take_counts(bytes: &[u8]) -> Result<(Header, &[u8]), ReadStop>
 
 /// The first line, and the bytes behind it.
 #[tactic(auto, unfolding(crate::specs::Header::header_at))]
-pub(crate) fn take_header(bytes: &[u8]) -> Result<(Header, &[u8]), ReadStop>
-    ensures is { Gives (λ x. (x.0, x.1.now)) result (header_at bytes.now) }
-    ensures few { IfOk result (λ x. x.0.inputs + x.0.ands ≤ 1000000) }
+pub(crate) fn take_header(form: Form, bytes: &[u8]) -> Result<(Header, &[u8]), ReadStop>
+    ensures is { Gives (λ x. (x.0, x.1.now)) result (header_at form bytes.now) }
+    ensures few { IfOk result (λ x. x.0.variables ≤ 1000000) }
+    ensures fits { IfOk result (λ x. x.0.inputs + x.0.ands ≤ x.0.variables) }
 {
-    if !begins_file(bytes) {
+    if !begins_file(form, bytes) {
         return Err(ReadStop::At(Stop {
             left: bytes.len(),
             why: AigerWhy::Header,
         }));
     }
     let (variables, rest) = take_variables(&bytes[4..])?;
-    let (header, rest) = take_counts(rest)?;
+    let (header, rest) = take_counts(variables, rest)?;
     let behind = take_zeros(count_spaces(bytes) - 5, rest)?;
-    if u64::from(variables) != u64::from(header.inputs) + u64::from(header.ands) {
+    if !fits_form(form, header) {
         return Err(ReadStop::At(Stop {
             left: bytes.len(),
             why: AigerWhy::Header,

@@ -9,7 +9,7 @@ use rsfq_ids::list::List;
 use std::alloc::Global;
 
 /// The bytes behind the end of a line.
-fn end_line(bytes: &[u8]) -> Result<&[u8], ReadStop>
+pub(crate) fn end_line(bytes: &[u8]) -> Result<&[u8], ReadStop>
     ensures { Gives (λ x. x.now) result (line_end_at bytes.now) }
 {
     match bytes {

@@ -1,7 +1,10 @@
 //! Files with known graphs and faults. The wanted answers are written by hand.
 
-use crate::read_binary;
-use golden_aig::{eval, golden_values};
+use crate::{
+    AigerWhy, ands_are_read, differences_are_read, numbers_are_read, read_aiger, read_ascii,
+    read_binary,
+};
+use golden_aig::{eval, golden_values, values_are_determined};
 use std::alloc::{AllocError, Global};
 use std::test::Fail;
 
@@ -10,7 +13,7 @@ fn describe(alloc: Global, bytes: &[u8]) -> Result<String, AllocError> {
     if bytes.len() > 1000 {
         return String::from_str(alloc, "long");
     }
-    match read_binary(alloc, bytes) {
+    match read_aiger(alloc, bytes) {
         Ok(aig) => format!(in alloc;
             "{} {:?} {:?} {:?} {:?}",
             aig.inputs,
@@ -19,7 +22,14 @@ fn describe(alloc: Global, bytes: &[u8]) -> Result<String, AllocError> {
             aig.in_names.as_slice(),
             aig.out_names.as_slice()
         ),
-        Err(fault) => format!(in alloc; "{} {}", fault.offset, fault.why),
+        Err(fault) => match &fault.why {
+            AigerWhy::Cycle(ring) => format!(in alloc;
+                "{} cycle {:?}",
+                fault.offset,
+                ring.as_slice()
+            ),
+            why => format!(in alloc; "{} {}", fault.offset, why),
+        },
     }
 }
 
@@ -62,6 +72,112 @@ fn faults_are_the_first_from_the_left(rt: HostRuntime) -> Result<(), Fail> {
 }
 
 #[test]
+fn faults_of_lines_have_their_places(rt: HostRuntime) -> Result<(), Fail> {
+    let cases: [(&[u8], &str); 37] = [
+        (b"aag 1 1 0 1 0\n2\n", "16 truncated"),
+        (b"aag 1 0 1 0 0\n", "8 latches"),
+        (b"aag 1000001 0 0 0 0\n", "4 limit 1000001"),
+        (b"aag 2 0 0 0 2\n2 4 4\n4 2 2\n", "14 cycle [2, 4]"),
+        (b"aag 1 0 0 0 1\n2 2 0\n", "14 cycle [2]"),
+        (
+            b"aag 3 0 0 0 3\n6 2 1\n2 4 1\n4 6 1\n",
+            "14 cycle [2, 4, 6]",
+        ),
+        (
+            b"aag 5 1 0 0 4\n2\n10 4 2\n8 2 6\n6 3 9\n4 10 10\n",
+            "16 cycle [4, 10]",
+        ),
+        (b"aag 1 1 0 1\n2\n", "0 header"),
+        (b"aag 1 1 0 0 1\n2\n", "0 header"),
+        (b"aag  1 0 0 0 0\n", "4 number"),
+        (b"aag 1 1 0 0 0 1\n2\n", "14 extended"),
+        (b"aag 1 1 0 0 0", "13 truncated"),
+        (b"aag 1 1 0 0 0\n", "14 truncated"),
+        (b"aag 1 1 0 0 0\n\n", "14 number"),
+        (b"aag 1 1 0 0 0\n2 \n", "15 number"),
+        (b"aag 2 1 0 0 1\n2\n4 2\n", "19 number"),
+        (b"aag 2 1 0 0 1\n2\n4 2", "19 number"),
+        (b"aag 2 1 0 0 1\n2\n4  2\n", "18 number"),
+        (b"aag 2 1 0 0 1\n2\n4 2 2 \n", "21 number"),
+        (b"aag 2 1 0 0 1\n2\n4 x 2\n", "18 number"),
+        (b"aag 1 1 0 0 0\n3\n", "14 range 3"),
+        (b"aag 1 1 0 0 0\n0\n", "14 range 0"),
+        (b"aag 1 1 0 0 0\n4\n", "14 range 4"),
+        (b"aag 1 1 0 1 0\n2\n4\n", "16 range 4"),
+        (b"aag 2 1 0 0 1\n2\n5 2 2\n", "16 range 5"),
+        (b"aag 2 1 0 0 1\n2\n4 6 2\n", "18 range 6"),
+        (b"aag 2 1 0 0 1\n2\n4 2 6\n", "20 range 6"),
+        (b"aag 2 2 0 0 0\n2\n2\n", "16 defined 2"),
+        (b"aag 2 1 0 0 1\n2\n2 2 2\n", "16 defined 2"),
+        (b"aag 4 1 0 0 2\n2\n4 2 2\n4 2 2\n", "22 defined 4"),
+        (b"aag 2 1 0 1 0\n2\n4\n", "16 undefined 4"),
+        (b"aag 3 1 0 1 1\n2\n4\n4 7 2\n", "20 undefined 7"),
+        (b"aag 3 1 0 1 1\n2\n4\n4 2 7\n", "22 undefined 7"),
+        (b"aag 2 1 0 1 0\n2\n4\nx\n", "18 symbol"),
+        (b"aag 1 1 0 0 0\n2\ni1 a\n", "16 symbol"),
+        (b"aag 1 1 0 0 0\n2\no0 a\n", "16 symbol"),
+        (b"aag 1 1 0 0 0\n2\ni0 a\ni0 a\n", "21 symbol"),
+    ];
+    for (bytes, wanted) in cases {
+        let text = describe(rt.alloc(), bytes)?;
+        assert_eq!(rt; text.as_str(), wanted);
+    }
+    Ok(())
+}
+
+#[test]
+fn graphs_of_lines_are_numbered_anew(rt: HostRuntime) -> Result<(), Fail> {
+    let cases: [(&[u8], &str); 9] = [
+        (b"aag 1 1 0 1 0\n2\n2\n", "1 [] [2] [None] [None]"),
+        (
+            b"aag 1 1 0 2 0\n2\n2\n2\n",
+            "1 [] [2, 2] [None] [None, None]",
+        ),
+        (
+            b"aag 3 2 0 1 1\n2\n4\n7\n6 5 3\n",
+            "2 [And { lhs: 6, rhs0: 5, rhs1: 3 }] [7] [None, None] [None]",
+        ),
+        (
+            b"aag 3 2 0 1 1\n2\n4\n6\n6 4 2\n",
+            "2 [And { lhs: 6, rhs0: 4, rhs1: 2 }] [6] [None, None] [None]",
+        ),
+        (
+            b"aag 2 2 0 2 0\n2\n4\n2\n4\ni0 a[0]\ni1 a[1]\no0 y[0]\no1 y[1]\n",
+            "2 [] [2, 4] [Some(Name { text: \"a[0]\" }), Some(Name { text: \"a[1]\" })] [Some(Name { text: \"y[0]\" }), Some(Name { text: \"y[1]\" })]",
+        ),
+        (
+            b"aag 2 2 0 2 0\n2\n4\n2\n4\n",
+            "2 [] [2, 4] [None, None] [None, None]",
+        ),
+        (
+            b"aag 9 2 0 1 2\n14\n4\n19\n18 17 5\n16 14 4\nc\nrest",
+            "2 [And { lhs: 6, rhs0: 2, rhs1: 4 }, And { lhs: 8, rhs0: 7, rhs1: 5 }] [9] [None, None] [None]",
+        ),
+        (
+            b"aag 5 1 0 0 3\n2\n10 8 2\n8 2 2\n6 2 2\n",
+            "1 [And { lhs: 4, rhs0: 2, rhs1: 2 }, And { lhs: 6, rhs0: 4, rhs1: 2 }, And { lhs: 8, rhs0: 2, rhs1: 2 }] [] [None] []",
+        ),
+        (b"aag 7 0 0 2 0\n0\n1", "0 [] [0, 1] [] [None, None]"),
+    ];
+    for (bytes, wanted) in cases {
+        let text = describe(rt.alloc(), bytes)?;
+        assert_eq!(rt; text.as_str(), wanted);
+    }
+    Ok(())
+}
+
+#[test]
+fn each_form_has_its_reader(rt: HostRuntime) -> Result<(), Fail> {
+    numbers_are_read();
+    differences_are_read();
+    ands_are_read();
+    assert!(rt; read_binary(rt.alloc(), ONE_AND).is_ok());
+    assert!(rt; read_ascii(rt.alloc(), ONE_AND).is_err());
+    assert!(rt; read_ascii(rt.alloc(), b"aag 1 1 0 1 0\n2\n2\n").is_ok());
+    Ok(())
+}
+
+#[test]
 fn graphs_are_read_with_their_symbols(rt: HostRuntime) -> Result<(), Fail> {
     let text = describe(rt.alloc(), ONE_AND)?;
     assert_eq!(rt;
@@ -86,6 +202,7 @@ fn a_graph_that_is_read_has_values(rt: HostRuntime) -> Result<(), Fail> {
         Err(_) => panic!(rt; "a graph"),
     };
     golden_values(&aig);
+    values_are_determined(&aig);
     assert!(rt; aig.inputs == 3 && aig.ands.len() == 1 && aig.outputs.len() == 1);
     let mut marks = [false; 4];
     let mut into = [false; 1];

@@ -1,0 +1,27 @@
+-- Files of both forms.
+use Rattle.std.specs.Prelude.{◌≡◌, ℕ, ◌⊎◌, nat_eq, Bool, true, false, List}
+use Rattle.std.specs.List.{starts_with}
+use Rattle.golden_aig.specs.declared.graph.Aig.{Aig}
+use Rattle.golden_aig.specs.Aig.{IsAig}
+use Rattle.aiger_read.specs.declared.fault.AigerWhy.TheVariants as why
+use Rattle.aiger_read.specs.declared.fault.AigerFault.{AigerFault}
+use Rattle.aiger_read.specs.declared.header.Form.TheVariants as form
+use Rattle.aiger_read.specs.Header.{word_of}
+use Rattle.aiger_read.specs.Graph.{ReadsAs, IsRefusal}
+use Rattle.aiger_read.specs.Text.{ListsAs, IsListRefusal}
+
+-- the bytes are a file of the graph, in the one form or the other
+abbrev pub IsFileOf : List ℕ → Aig → Type 0
+IsFileOf bytes aig = ListsAs bytes aig ⊎ ReadsAs bytes aig
+
+-- the file begins as the ASCII form does
+abbrev pub is_ascii : List ℕ → Bool
+is_ascii bytes = starts_with nat_eq bytes (word_of form.Ascii)
+
+-- the fault of the form that the file begins as; one that begins as neither is a binary file with a bad first line
+abbrev pub IsFault : List ℕ → AigerFault → Type 0
+IsFault bytes fault = (is_ascii bytes ≡ true → IsListRefusal bytes fault) × (is_ascii bytes ≡ false → IsRefusal bytes fault)
+
+-- memory ran out, or the bytes are a file of no graph, in neither form
+abbrev pub IsFileOfNone : List ℕ → AigerFault → Type 0
+IsFileOfNone bytes fault = (fault.why ≡ why.Memory) ⊎ ((aig : Aig) → IsAig aig → IsFileOf bytes aig → ⊥)
