@@ -1,7 +1,7 @@
 -- Which bound sources are well formed.
-use Rattle.std.specs.Prelude.{◌≡◌, ℕ, ◌+◌, ◌<◌, ◌≤◌, List, ◌++◌, map, length, sum_by, slice_get, Option, Some, None, ⊤, option_to_list}
+use Rattle.std.specs.Prelude.{◌≡◌, ◌≢◌, ℕ, ◌+◌, ◌<◌, ◌≤◌, List, ◌++◌, map, length, sum_by, slice_get, Option, Some, None, ⊤, option_to_list}
 use Rattle.std.specs.Option.{option_map}
-use Rattle.std.specs.List.{All}
+use Rattle.std.specs.List.{All, AllPairs}
 use Rattle.rsfq_ids.specs.declared.table.CellTable.{CellTable}
 use Rattle.rsfq_ids.specs.declared.table.CellRow.{CellRow}
 use Rattle.rsfq_ids.specs.WellFormed.{AreDistinct}
@@ -65,11 +65,12 @@ pub record IsLink (wires : List BoundWire) (widths : List ℕ) (link : BoundLink
   pub parts : All (IsPart wires) link.parts
   pub width : slice_get widths link.port ≡ Some (parts_width link.parts)
 
--- An instance of a module or a cell that there is.
+-- An instance of a module or a cell that there is. No port is linked twice.
 pub record IsInstance (table : CellTable) (bound : Bound) (wires : List BoundWire) (instance : BoundInstance) : Type 0 where
   pub widths : List ℕ
   pub kind : port_widths table bound instance.kind ≡ Some widths
   pub links : All (IsLink wires widths) instance.links
+  pub once : AllPairs (λ one other. one.port ≢ other.port) instance.links
 
 -- ---- modules
 
