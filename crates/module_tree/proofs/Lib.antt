@@ -1,0 +1,5 @@
+pub mod Firsts
+pub mod Inner
+pub mod Meanings
+pub mod Chains
+pub mod Roots
