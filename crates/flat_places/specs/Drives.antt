@@ -16,9 +16,9 @@ use Rattle.verilog_bind.specs.declared.bound.Bound.{Bound}
 use Rattle.design_size.specs.Hierarchy.{leads_to}
 use Rattle.flat_places.specs.Places.{Place, CellAt, cells_of, part_bits, port_places}
 
--- the module that a path of instances leads to from the top
-abbrev pub IsModuleAt : Bound → List ℕ → BoundModule → Type 0
-IsModuleAt bound path owner = (at : ℕ) × (leads_to bound bound.top path ≡ Some at) × (slice_get bound.modules at ≡ Some owner)
+-- the module that a path of instances leads to from another
+abbrev pub IsModuleAt : Bound → ℕ → List ℕ → BoundModule → Type 0
+IsModuleAt bound root path owner = (at : ℕ) × (leads_to bound root path ≡ Some at) × (slice_get bound.modules at ≡ Some owner)
 
 -- an assign of the module sets one wire bit from another
 pub record Assigns (owner : BoundModule) (from to : ℕ × ℕ) : Type 0 where
@@ -38,9 +38,9 @@ pub record Links (declared : BoundInstance) (port bit : ℕ) (outside : ℕ × �
   pub joined : slice_get (part_bits link.parts) bit ≡ Some outside
 
 -- an instance of a module, in the module that a path leads to, with a link that joins a bit of its port with a wire bit outside
-pub record LinksModule (bound : Bound) (path : List ℕ) (instance port bit : ℕ) (output : Bool) (outside : ℕ × ℕ) : Type 0 where
+pub record LinksModule (bound : Bound) (root : ℕ) (path : List ℕ) (instance port bit : ℕ) (output : Bool) (outside : ℕ × ℕ) : Type 0 where
   pub owner : BoundModule
-  pub is_at : IsModuleAt bound path owner
+  pub is_at : IsModuleAt bound root path owner
   pub declared : BoundInstance
   pub listed : slice_get owner.instances instance ≡ Some declared
   pub inner : ℕ
@@ -52,14 +52,14 @@ pub record LinksModule (bound : Bound) (path : List ℕ) (instance port bit : �
   pub direction : inner_port.output ≡ output
   pub links : Links declared port bit outside
 
--- One place follows another: an assign sets it from the other; a link leads the other into an instance's input, which it is a bit of; or a link leads an instance's output, which the other is a bit of, out to it.
-pub data Follows (bound : Bound) : Place → Place → Type 0 where
-  assign : (path : List ℕ) (owner : BoundModule) (from to : ℕ × ℕ) → IsModuleAt bound path owner → Assigns owner from to →
-      Follows bound (record { path = path; wire = from.0; bit = from.1 }) (record { path = path; wire = to.0; bit = to.1 })
-  into : (path : List ℕ) (instance port bit : ℕ) (outside : ℕ × ℕ) → LinksModule bound path instance port bit false outside →
-      Follows bound (record { path = path; wire = outside.0; bit = outside.1 }) (record { path = path ++ instance ∷ []; wire = port; bit = bit })
-  out : (path : List ℕ) (instance port bit : ℕ) (outside : ℕ × ℕ) → LinksModule bound path instance port bit true outside →
-      Follows bound (record { path = path ++ instance ∷ []; wire = port; bit = bit }) (record { path = path; wire = outside.0; bit = outside.1 })
+-- One place follows another, by their paths from a module: an assign sets it from the other; a link leads the other into an instance's input, which it is a bit of; or a link leads an instance's output, which the other is a bit of, out to it.
+pub data Follows (bound : Bound) (root : ℕ) : Place → Place → Type 0 where
+  assign : (path : List ℕ) (owner : BoundModule) (from to : ℕ × ℕ) → IsModuleAt bound root path owner → Assigns owner from to →
+      Follows bound root (record { path = path; wire = from.0; bit = from.1 }) (record { path = path; wire = to.0; bit = to.1 })
+  into : (path : List ℕ) (instance port bit : ℕ) (outside : ℕ × ℕ) → LinksModule bound root path instance port bit false outside →
+      Follows bound root (record { path = path; wire = outside.0; bit = outside.1 }) (record { path = path ++ instance ∷ []; wire = port; bit = bit })
+  out : (path : List ℕ) (instance port bit : ℕ) (outside : ℕ × ℕ) → LinksModule bound root path instance port bit true outside →
+      Follows bound root (record { path = path ++ instance ∷ []; wire = port; bit = bit }) (record { path = path; wire = outside.0; bit = outside.1 })
 
 -- a pin of a cell, among its inputs, its clock and its outputs, is linked to a place
 pub record IsPinAt (bound : Bound) (cell port : ℕ) (place : Place) : Type 0 where
@@ -68,7 +68,7 @@ pub record IsPinAt (bound : Bound) (cell port : ℕ) (place : Place) : Type 0 wh
   pub instance : ℕ
   pub last : found.path ≡ place.path ++ instance ∷ []
   pub owner : BoundModule
-  pub is_at : IsModuleAt bound place.path owner
+  pub is_at : IsModuleAt bound bound.top place.path owner
   pub declared : BoundInstance
   pub listed : slice_get owner.instances instance ≡ Some declared
   pub links : Links declared port 0 (place.wire, place.bit)
@@ -95,7 +95,7 @@ StartsAt table bound (driver.Out cell output) place = IsPinAt bound cell (readin
 -- Drives: the least relation such that an input bit of the top drives its own place, a cell's output the place that it is linked to, and what drives a place drives each place that follows it.
 pub data Drives (table : CellTable) (bound : Bound) (from : Driver) : Place → Type 0 where
   starts : (place : Place) → StartsAt table bound from place → Drives table bound from place
-  follows : (before after : Place) → Drives table bound from before → Follows bound before after → Drives table bound from after
+  follows : (before after : Place) → Drives table bound from before → Follows bound bound.top before after → Drives table bound from after
 
 -- where a reader reads: a pin of a cell at the place that it is linked to, an output bit of the top at its own place
 abbrev pub ReadsAt : Bound → Reader → Place → Type 0

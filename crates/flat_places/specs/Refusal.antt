@@ -29,8 +29,8 @@ pub record IsFirstTwo (table : CellTable) (bound : Bound) (nets : List Driver) (
 
 -- each place follows the one before it, the first of them `before`, and `first` follows the last
 abbrev pub GoesRound : Bound → Place → Place → List Place → Type 0
-GoesRound bound first before [] = Follows bound before first
-GoesRound bound first before (place ∷ places) = Follows bound before place × GoesRound bound first place places
+GoesRound bound first before [] = Follows bound bound.top before first
+GoesRound bound first before (place ∷ places) = Follows bound bound.top before place × GoesRound bound first place places
 
 -- places in a ring, each following the one before
 abbrev pub IsRing : Bound → List Place → Type 0

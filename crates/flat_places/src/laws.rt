@@ -1,7 +1,9 @@
 //! What the lists of places and cells come to, as laws.
 
 ghost use Rattle.std.specs.Prelude.{◌≡◌, ℕ, length, slice_get, Some};
-ghost use Rattle.design_size.specs.Hierarchy.{cell_count, bit_count};
+ghost use Rattle.design_size.specs.Hierarchy.{IsDeeper, cell_count, bit_count};
+ghost use Rattle.flat_places.specs.Drives.{Follows};
+ghost use Rattle.flat_places.specs.Hops.{Hop, hops_in};
 ghost use Rattle.flat_places.specs.Places.{Place, places_in, cells_in};
 ghost use Rattle.flat_places.specs.Numbers.{number_in};
 
@@ -18,6 +20,15 @@ pub fn places_are_counted(bound: &Bound)
 /// Each place stands once in the list, at the number that its path, wire and bit give.
 pub fn places_are_numbered(bound: &Bound)
     ensures { (levels at k : ℕ) (place : Place) → slice_get (places_in bound.now levels at) k ≡ Some place → k ≡ number_in bound.now levels at place.path place.wire place.bit }
+{
+    let _ = bound;
+}
+
+/// The written-out pairs of places are those of which one follows the other, where modules lie no deeper than so many levels.
+pub fn hops_are_followed(bound: &Bound)
+    ensures sound { (levels at k : ℕ) (hop : Hop) → slice_get (hops_in bound.now levels at) k ≡ Some hop → Follows bound.now at hop.from hop.to }
+    ensures complete { (levels at : ℕ) (before after : Place) → ¬ IsDeeper bound.now levels at → Follows bound.now at before after →
+        (k : ℕ) × (slice_get (hops_in bound.now levels at) k ≡ Some (record { from = before; to = after })) }
 {
     let _ = bound;
 }
