@@ -1,3 +1,4 @@
 pub mod Bits
 pub mod ClauseLaws
+pub mod FormLaws
 pub mod TruthLaws

@@ -1,9 +1,9 @@
 //! A truth table of one to four pins.
 
-ghost use Rattle.std.specs.Prelude.{◌≡◌, ◌++◌, ◌<◌, ◌≤◌, ◌^◌, ◌==◌, ℕ, Bool, ◌↔◌, map, OnOk, OnErr, IfOk};
+ghost use Rattle.std.specs.Prelude.{◌≡◌, ◌≢◌, ◌++◌, ◌*◌, ◌<◌, ◌≤◌, ◌^◌, ◌==◌, ℕ, Bool, ◌↔◌, map, OnOk, OnErr, IfOk};
 ghost use Rattle.std.specs.Int.{bit_at};
-ghost use Rattle.std.specs.List.{All};
-ghost use Rattle.rsfq_ids.specs.Formula.{Satisfies, value_of};
+ghost use Rattle.std.specs.List.{All, AllPairs};
+ghost use Rattle.rsfq_ids.specs.Formula.{IsOver, Satisfies, value_of};
 ghost use Rattle.cell_truth.specs.Clause.{written};
 ghost use Rattle.cell_truth.specs.Truth.{digit, row_clause, signed, truth_clauses, truth_value};
 
@@ -92,7 +92,7 @@ impl<const PINS: usize> Truth<PINS> {
     }
 
     /// Adds the clauses that hold together exactly where the output's value is the table's at the inputs' values:
-    /// one for each row, in order, as a formula holds clauses. After a refusal the list is unchanged.
+    /// one for each row, in order, as a formula holds clauses, none with a literal twice. After a refusal the list is unchanged.
     pub fn clauses(
         &self,
         alloc: Global,
@@ -103,6 +103,8 @@ impl<const PINS: usize> Truth<PINS> {
         requires { PINS ≤ 4 }
         ensures added { OnOk result (into.new ≡ into.old ++ truth_clauses self.now PINS inputs.now output) }
         ensures meaning { OnOk result ((values : ℕ → Bool) → All (Satisfies values) into.new ↔ (All (Satisfies values) into.old × (value_of values output ≡ truth_value values self.now inputs.now))) }
+        ensures once { OnOk result (All (λ clause. AllPairs (λ one other. one ≢ other) clause) into.old → All (λ clause. AllPairs (λ one other. one ≢ other) clause) into.new) }
+        ensures over { OnOk result ((vars : ℕ) → IsOver vars inputs.now → output < 2 * vars → All (IsOver vars) into.old → All (IsOver vars) into.new) }
         ensures kept { OnErr result (into.new ≡ into.old) }
     {
         let mut made = List::new(alloc);
@@ -140,8 +142,8 @@ mod tests {
     {
         let table: Truth<PINS> = Truth::new(rows);
         let mut inputs = [Lit::of(0); PINS];
-        for pin in 0..PINS {
-            inputs[pin] = Lit::of(literals[pin]);
+        for place in 0..PINS {
+            inputs[place] = Lit::of(literals[place]);
         }
         table.clauses(alloc, &inputs, Lit::of(literals[3]), into)
     }

@@ -6,16 +6,14 @@ use Rattle.std.specs.Map.{update}
 use Rattle.std.specs.Str.{bytes_eq}
 use Rattle.std.specs.Borrow.{Bor}
 use Rattle.std.specs.BTreeMap.{BTreeMap, get_by}
-use Rattle.std.specs.BTreeMap as tree
 use Rattle.std.specs.Ordering.{nat_cmp}
 use Rattle.std.specs.Cmp.Lexicographic.{slice_cmp}
 use Rattle.std.proofs.lemmas.List.{length-map, map-append}
-use Rattle.std.proofs.lemmas.Map.Text.{btree_map_updates_str}
 use Rattle.std.proofs.lemmas.Slice.Eq.{bytes_eq-Decides}
 use Rattle.table_fields.specs.Names.{place_of, with_name}
 use Rattle.table_fields.specs.PlaceMap.{AreFewPlaces}
 use Rattle.table_fields.proofs.PlaceFacts.{no_place, place_found, place_passed, some_place}
-use Rattle.table_fields.proofs.Places.{place_there, same_bytes}
+use Rattle.table_fields.proofs.Places.{place_there}
 
 -- a place is one of the list
 pub place_below : {X : Type 0} (p : X → Bool) (xs : List X) (k : ℕ) → position p xs ≡ Some k → k < length xs
@@ -78,9 +76,9 @@ pub places_more : (names new : List (Bor (List ℕ))) (places more : BTreeMap (B
 places_more names new places more name place old fresh room is at updated = record {
   few = let long : length new ≡ length names + 1 = ap (λ (xs : List (Bor (List ℕ))). length xs) is ∙ length-append names (name ∷ []) in omega (arith, long);
   places_are = λ asked.
-  updated asked
-  ∙ (ap (λ n. cond (bytes_eq name.now asked) (Some n) (get_by (λ key. slice_cmp nat_cmp asked key.now) places)) (at ∙ sym (length-map names (λ (name : Bor (List ℕ)). name.now)))
-  ∙ (ap (λ o. cond (bytes_eq name.now asked) (Some (length (map (λ (name : Bor (List ℕ)). name.now) names))) o) (old.places_are asked)
-  ∙ (sym (place_more (map (λ (name : Bor (List ℕ)). name.now) names) name.now asked fresh)
-  ∙ ap (λ names. place_of names asked) (sym (ap (map (λ (name : Bor (List ℕ)). name.now)) is ∙ map-append (λ (name : Bor (List ℕ)). name.now) names (name ∷ []))))));
+      updated asked
+      ∙ (ap (λ n. cond (bytes_eq name.now asked) (Some n) (get_by (λ key. slice_cmp nat_cmp asked key.now) places)) (at ∙ sym (length-map names (λ (name : Bor (List ℕ)). name.now)))
+      ∙ (ap (λ o. cond (bytes_eq name.now asked) (Some (length (map (λ (name : Bor (List ℕ)). name.now) names))) o) (old.places_are asked)
+      ∙ (sym (place_more (map (λ (name : Bor (List ℕ)). name.now) names) name.now asked fresh)
+      ∙ ap (λ names. place_of names asked) (sym (ap (map (λ (name : Bor (List ℕ)). name.now)) is ∙ map-append (λ (name : Bor (List ℕ)). name.now) names (name ∷ []))))));
 }

@@ -7,8 +7,8 @@ ghost use Rattle.table_fields.specs.Records.{are_fields, count_fault, empty_faul
 
 use crate::numbers::{NumberRead, read_number};
 use crate::records::field_at;
-use rsfq_ids::table_fault::TableWhy;
 use csv::ByteRecord;
+use rsfq_ids::table_fault::TableWhy;
 
 /// The greatest time of a table, in femtoseconds.
 pub const LONGEST: u64 = 1_000_000_000;

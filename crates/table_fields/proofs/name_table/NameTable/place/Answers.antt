@@ -1,4 +1,4 @@
-use Rattle.std.proofs.Common.{◌≡◌, ◌∙◌}
+use Rattle.std.proofs.Common.{◌∙◌}
 use Rattle.table_fields.proofs.NameFacts.{place_small}
 use Rattle.table_fields.proofs.name_table.NameTable.place.Goals as goal
 
