@@ -9,3 +9,6 @@ mod size;
 
 pub use limits::{LimitFault, measure};
 pub use size::Size;
+
+#[cfg(test)]
+mod tests;
