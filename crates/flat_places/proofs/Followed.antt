@@ -72,7 +72,7 @@ ports_at : (bound : Bound) (at : ℕ) (owner : BoundModule) → slice_get bound.
 ports_at bound at owner e = ap (λ (o : Option BoundModule). unwrap_or (option_map (λ (m : BoundModule). m.ports) o) []) e
 
 -- an item of a list that is empty where there is no module shows that there is one
-owner_there : {X : Type 0} (bound : Bound) (at : ℕ) (f : BoundModule → List X) (k : ℕ) (x : X) → slice_get (unwrap_or (option_map f (slice_get bound.modules at)) []) k ≡ Some x →
+pub owner_there : {X : Type 0} (bound : Bound) (at : ℕ) (f : BoundModule → List X) (k : ℕ) (x : X) → slice_get (unwrap_or (option_map f (slice_get bound.modules at)) []) k ≡ Some x →
     (owner : BoundModule) × (slice_get bound.modules at ≡ Some owner) × (slice_get (f owner) k ≡ Some x)
 owner_there {X} bound at f k x e = go (slice_get bound.modules at) refl e where
   go : (o : Option BoundModule) → slice_get bound.modules at ≡ o → slice_get (unwrap_or (option_map f o) []) k ≡ Some x → (owner : BoundModule) × (slice_get bound.modules at ≡ Some owner) × (slice_get (f owner) k ≡ Some x)
@@ -80,7 +80,7 @@ owner_there {X} bound at f k x e = go (slice_get bound.modules at) refl e where
   go (Some owner) is g = (owner, is, g)
 
 -- where a path through an instance leads
-leads_on : (bound : Bound) (at instance inner : ℕ) (path : List ℕ) (declared : BoundInstance) → slice_get (instances_of bound at) instance ≡ Some declared → declared.kind ≡ Module inner → leads_to bound at (instance ∷ path) ≡ leads_to bound inner path
+pub leads_on : (bound : Bound) (at instance inner : ℕ) (path : List ℕ) (declared : BoundInstance) → slice_get (instances_of bound at) instance ≡ Some declared → declared.kind ≡ Module inner → leads_to bound at (instance ∷ path) ≡ leads_to bound inner path
 leads_on bound at instance inner path declared e k =
     ap (λ (o : Option BoundInstance). option_and_then (λ inner. leads_to bound inner path) (option_and_then (λ i. module_of i.kind) o)) e
     ∙ ap (λ (kind : BoundKind). option_and_then (λ inner. leads_to bound inner path) (module_of kind)) k
@@ -219,7 +219,7 @@ hop_follows bound (suc levels) at k hop e = elim (joined_got (flat_map assign_ho
 
 -- ---- each place that follows another is in a hop
 
-leads_through : (bound : Bound) (at instance : ℕ) (path : List ℕ) (m : ℕ) → leads_to bound at (instance ∷ path) ≡ Some m →
+pub leads_through : (bound : Bound) (at instance : ℕ) (path : List ℕ) (m : ℕ) → leads_to bound at (instance ∷ path) ≡ Some m →
     (declared : BoundInstance) × (inner : ℕ) × (slice_get (instances_of bound at) instance ≡ Some declared) × (declared.kind ≡ Module inner) × (leads_to bound inner path ≡ Some m)
 leads_through bound at instance path m e = go (slice_get (instances_of bound at) instance) refl e where
   kinds : (declared : BoundInstance) → slice_get (instances_of bound at) instance ≡ Some declared → (kind : BoundKind) → declared.kind ≡ kind → option_and_then (λ inner. leads_to bound inner path) (module_of kind) ≡ Some m →
@@ -232,7 +232,7 @@ leads_through bound at instance path m e = go (slice_get (instances_of bound at)
   go None is f = absurd cc
   go (Some declared) is f = kinds declared is declared.kind refl f
 
-not_deeper : (bound : Bound) (levels at instance inner : ℕ) (declared : BoundInstance) → slice_get (instances_of bound at) instance ≡ Some declared → declared.kind ≡ Module inner → (IsDeeper bound (suc levels) at → ⊥) → IsDeeper bound levels inner → ⊥
+pub not_deeper : (bound : Bound) (levels at instance inner : ℕ) (declared : BoundInstance) → slice_get (instances_of bound at) instance ≡ Some declared → declared.kind ≡ Module inner → (IsDeeper bound (suc levels) at → ⊥) → IsDeeper bound levels inner → ⊥
 not_deeper bound levels at instance inner declared e k deep d =
     deep (instance ∷ d.0, (let l = d.1 in omega (arith, l)), subst IsSome (sym (leads_on bound at instance inner d.0 declared e k)) d.2)
 

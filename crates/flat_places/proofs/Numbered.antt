@@ -25,12 +25,12 @@ number_deeper : (bound : Bound) (levels at instance : ℕ) (path : List ℕ) (wi
 unfolding number_in
 number_deeper bound levels at instance path wire bit = refl
 
-places_more : (bound : Bound) (levels at : ℕ) → places_in bound (suc levels) at ≡
+pub places_more : (bound : Bound) (levels at : ℕ) → places_in bound (suc levels) at ≡
     own_places (wires_of bound at) ++ flat_map (λ (instance, declared). places_by (places_in bound levels) instance declared.kind) (enumerate_from 0 (instances_of bound at))
 unfolding places_in
 places_more bound levels at = refl
 
-places_none : (bound : Bound) (at : ℕ) → places_in bound 0 at ≡ []
+pub places_none : (bound : Bound) (at : ℕ) → places_in bound 0 at ≡ []
 unfolding places_in
 places_none bound at = refl
 

@@ -1,5 +1,5 @@
 -- What drives which place of a bound source.
-use Rattle.std.specs.Prelude.{◌≡◌, ℕ, ◌+◌, Bool, true, false, List, [], ◌∷◌, ◌++◌, length, slice_get, Some, option_to_list, unwrap_or}
+use Rattle.std.specs.Prelude.{◌≡◌, ℕ, ◌+◌, ◌<◌, Bool, true, false, List, [], ◌∷◌, ◌++◌, length, slice_get, Some, option_to_list, unwrap_or}
 use Rattle.std.specs.Option.{option_map, option_and_then}
 use Rattle.rsfq_ids.specs.declared.table.CellTable.{CellTable}
 use Rattle.rsfq_ids.specs.declared.circuit.Driver.{Driver}
@@ -11,7 +11,9 @@ use Rattle.verilog_bind.specs.declared.bound.BoundInstance.{BoundInstance}
 use Rattle.verilog_bind.specs.declared.bound.BoundAssign.{BoundAssign}
 use Rattle.verilog_bind.specs.declared.bound.BoundLink.{BoundLink}
 use Rattle.verilog_bind.specs.declared.bound.BoundPort.{BoundPort}
+use Rattle.verilog_bind.specs.declared.bound.BoundWire.{BoundWire}
 use Rattle.verilog_bind.specs.declared.bound.BoundModule.{BoundModule}
+use Rattle.verilog_bind.specs.Bits.{width_of}
 use Rattle.verilog_bind.specs.declared.bound.Bound.{Bound}
 use Rattle.design_size.specs.Hierarchy.{leads_to}
 use Rattle.flat_places.specs.Places.{Place, CellAt, cells_of, part_bits, port_places}
@@ -101,3 +103,11 @@ pub data Drives (table : CellTable) (bound : Bound) (from : Driver) : Place → 
 abbrev pub ReadsAt : Bound → Reader → Place → Type 0
 ReadsAt bound (reader.Pin cell pin) place = IsPinAt bound cell pin place
 ReadsAt bound (reader.Port port) place = IsPortAt bound port true place
+
+-- A place that there is, by its path from a module: the path leads to a module, which has the wire, which has the bit.
+pub record IsPlaceIn (bound : Bound) (root : ℕ) (place : Place) : Type 0 where
+  pub owner : BoundModule
+  pub is_at : IsModuleAt bound root place.path owner
+  pub declared : BoundWire
+  pub listed : slice_get owner.wires place.wire ≡ Some declared
+  pub within : place.bit < width_of declared.range

@@ -3,4 +3,4 @@
 
 mod laws;
 
-pub use laws::{hops_are_followed, places_are_counted, places_are_numbered};
+pub use laws::{hops_are_followed, places_are_counted, places_are_listed, places_are_numbered};
