@@ -132,7 +132,7 @@ same_step aig word value place ok one other lower le = go (nat_lt place aig.inpu
       let lt0 = here.rhs0 in
       let lt1 = here.rhs1 in
       let both : value gate.lhs ≡ golden aig word gate.lhs =
-          one.both (place - aig.inputs) gate is ∙ (ap₂ (λ (a b : Bool). a && b) (operand gate.rhs0 (omega arith)) (operand gate.rhs1 (omega arith)) ∙ sym (other.both (place - aig.inputs) gate is)) in
+      one.both (place - aig.inputs) gate is ∙ (ap₂ (λ (a b : Bool). a && b) (operand gate.rhs0 (omega arith)) (operand gate.rhs1 (omega arith)) ∙ sym (other.both (place - aig.inputs) gate is)) in
       subst (λ (l : ℕ). value l ≡ golden aig word l) top both
 
   go : (b : Bool) → nat_lt place aig.inputs ≡ b → value (2 * suc place) ≡ golden aig word (2 * suc place)
