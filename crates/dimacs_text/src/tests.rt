@@ -51,6 +51,7 @@ fn texts_are_read(rt: HostRuntime) -> Result<(), Fail> {
         (b"p cnf 1 2\n0 0\n\n\n", b"p cnf 1 2\n0\n0\n"),
     ];
     for (text, again) in texts {
+        assert!(rt; text.len() < 1000);
         let cnf = match read_dimacs(rt.alloc(), text) {
             Ok(cnf) => cnf,
             Err(_) => panic!(rt; "refused"),
@@ -98,6 +99,7 @@ fn faults_are_the_first(rt: HostRuntime) -> Result<(), Fail> {
         (b"p cnf 1 1\n1 0 0\n", 16, TextWhy::Count(2, 1)),
     ];
     for (text, offset, why) in faults {
+        assert!(rt; text.len() < 1000);
         match read_dimacs(rt.alloc(), text) {
             Ok(_) => panic!(rt; "taken"),
             Err(fault) => {

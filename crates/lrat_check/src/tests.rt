@@ -1,9 +1,9 @@
 //! Proofs of small formulas.
-use crate::{LratWhy, check_text};
+use crate::{LratWhy, check_text, lrat_run};
 use bumpalo::Bump;
 use dimacs_text::read_dimacs;
-use rsfq_ids::circuit::Cnf;
-use std::alloc::Global;
+use rsfq_outside::{MemoryFolder, MemorySink, Status};
+use std::alloc::{AllocError, Global};
 use std::test::Fail;
 
 const CHAIN: &[u8] = b"p cnf 2 3\n1 0\n-1 2 0\n-2 0\n";
@@ -31,6 +31,7 @@ fn proofs_are_verified(rt: HostRuntime) -> Result<(), Fail> {
         ),
     ];
     for (formula, proof) in proofs {
+        assert!(rt; formula.len() < 1000 && proof.len() < 1000);
         let arena = Bump::new(rt.alloc());
         let Ok(cnf) = read_dimacs(rt.alloc(), formula) else {
             panic!(rt; "refused formula");
@@ -96,6 +97,7 @@ fn faults_are_the_first(rt: HostRuntime) -> Result<(), Fail> {
         panic!(rt; "refused formula");
     };
     for (proof, line, why) in faults {
+        assert!(rt; proof.len() < 1000);
         let arena = Bump::new(rt.alloc());
         match check_text(rt.alloc(), &cnf, proof, &arena) {
             Ok(()) => panic!(rt; "verified"),
@@ -104,6 +106,153 @@ fn faults_are_the_first(rt: HostRuntime) -> Result<(), Fail> {
                 assert_eq!(rt; fault.why, why);
             }
         }
+    }
+    Ok(())
+}
+
+fn words_of(alloc: Global, words: &[&str]) -> Result<Vec<String>, AllocError> {
+    let mut all = Vec::new(alloc);
+    for word in words {
+        all.push(String::from_str(alloc, word)?)?;
+    }
+    Ok(all)
+}
+
+const USAGE: &[u8] = b"usage: rsfq_lrat CNF PROOF\n";
+
+// Each row: the words, and the answer over one folder of files.
+#[test]
+fn rows_of_the_words(rt: HostRuntime) -> Result<(), Fail> {
+    let alloc = rt.alloc();
+    let rows: [(&[&str], Status, &[u8]); 16] = [
+        (&["f", "p"], Status::Accepted, b"verified\n"),
+        (&["w", "v"], Status::Accepted, b"verified\n"),
+        (&["--", "f", "p"], Status::Accepted, b"verified\n"),
+        (
+            &["f", "q"],
+            Status::Refused,
+            b"refused proof 1 no conflict\n",
+        ),
+        (&["none", "p"], Status::Fault, b"fault read none\n"),
+        (&["f", "none"], Status::Fault, b"fault read none\n"),
+        (&["p", "f"], Status::Refused, b"refused cnf 0 header\n"),
+        (&["f", "-"], Status::Fault, b"fault read -\n"),
+        (&["f", "--", "-p"], Status::Fault, b"fault read -p\n"),
+        (&[], Status::Words, USAGE),
+        (&["f"], Status::Words, USAGE),
+        (&["f", "p", "q"], Status::Words, USAGE),
+        (&["--help"], Status::Words, USAGE),
+        (&["f", "-h"], Status::Words, USAGE),
+        (&["f", "-p"], Status::Words, USAGE),
+        (&["f", "p", "--proof"], Status::Words, USAGE),
+    ];
+    let mut folder = MemoryFolder::new(alloc, Vec::new(alloc));
+    folder.put("f", CHAIN)?;
+    folder.put("p", b"4 2 0 1 1 2 0\n5 0 4 3 0\n")?;
+    folder.put("q", b"4 2 0 1 1 0\n5 0 4 3 0\n")?;
+    folder.put("w", WIRE)?;
+    folder.put("v", b"9 1 0 1 8 4 0\n10 -1 0 2 8 5 0\n11 0 9 10 0\n")?;
+    for (words, status, text) in rows {
+        let mut out = MemorySink::new(alloc, 1000, Vec::new(alloc))?;
+        let given = words_of(alloc, words)?;
+        let answer = lrat_run(alloc, &given, &mut folder, &mut out);
+        assert_eq!(rt; answer, status, "{words:?}");
+        assert_eq!(rt; out.bytes(), text);
+    }
+    Ok(())
+}
+
+// Each row: a proof of the chain's formula, and the line of its refusal.
+#[test]
+fn refusals_of_proofs(rt: HostRuntime) -> Result<(), Fail> {
+    let alloc = rt.alloc();
+    let rows: [(&[u8], &[u8]); 12] = [
+        (b"4 1 0 -1 0", b"refused proof 1 rat\n"),
+        (b"3 0 1 0", b"refused proof 1 id\n"),
+        (b"4 0 9 0", b"refused proof 1 no clause 9\n"),
+        (b"4 1 -1 0 1 0", b"refused proof 1 tautology\n"),
+        (b"4 3 0 1 0", b"refused proof 1 range 3\n"),
+        (b"4 -3 0 1 0", b"refused proof 1 range -3\n"),
+        (b"4 0 2 0", b"refused proof 1 not unit 2\n"),
+        (b"4 0 1 0", b"refused proof 1 no conflict\n"),
+        (b"", b"refused proof 0 no empty\n"),
+        (b"c\nx", b"refused proof 2 syntax\n"),
+        (
+            b"4 2 0 1 2 0\n1 d 4 0\n5 0 4 3 0\n",
+            b"refused proof 3 no clause 4\n",
+        ),
+        (
+            b"4 2 0 1 1 0\n5 0 4 3 0\n",
+            b"refused proof 1 no conflict\n",
+        ),
+    ];
+    for (proof, text) in rows {
+        let mut folder = MemoryFolder::new(alloc, Vec::new(alloc));
+        folder.put("f", CHAIN)?;
+        folder.put("p", proof)?;
+        let mut out = MemorySink::new(alloc, 1000, Vec::new(alloc))?;
+        let given = words_of(alloc, &["f", "p"])?;
+        assert_eq!(rt;
+            lrat_run(alloc, &given, &mut folder, &mut out),
+            Status::Refused
+        );
+        assert_eq!(rt; out.bytes(), text);
+    }
+    Ok(())
+}
+
+// Each row: a text of a formula, and the line of its refusal.
+#[test]
+fn refusals_of_formulas(rt: HostRuntime) -> Result<(), Fail> {
+    let alloc = rt.alloc();
+    let rows: [(&[u8], &[u8]); 6] = [
+        (b"c no head\n", b"refused cnf 10 header\n"),
+        (b"p cnf 1 1\nx 0\n", b"refused cnf 10 number\n"),
+        (b"p cnf 1 1\n-2 0\n", b"refused cnf 10 range -2\n"),
+        (
+            b"p cnf 1 1\n4294967295 0\n",
+            b"refused cnf 10 range 4294967295\n",
+        ),
+        (b"p cnf 1 1\n1\n", b"refused cnf 12 unended\n"),
+        (b"p cnf 1 2\n1 0\n", b"refused cnf 14 count 1 2\n"),
+    ];
+    for (formula, text) in rows {
+        let mut folder = MemoryFolder::new(alloc, Vec::new(alloc));
+        folder.put("f", formula)?;
+        folder.put("p", b"")?;
+        let mut out = MemorySink::new(alloc, 1000, Vec::new(alloc))?;
+        let given = words_of(alloc, &["f", "p"])?;
+        assert_eq!(rt;
+            lrat_run(alloc, &given, &mut folder, &mut out),
+            Status::Refused
+        );
+        assert_eq!(rt; out.bytes(), text);
+    }
+    Ok(())
+}
+
+// The folder fails at its first call, then at its second; the sink takes three bytes, then nothing.
+#[test]
+fn faults_of_the_outside(rt: HostRuntime) -> Result<(), Fail> {
+    let alloc = rt.alloc();
+    let given = words_of(alloc, &["f", "p"])?;
+    let rows: [(&[u64], usize, &[u8]); 5] = [
+        (&[1], 1000, b"fault read f\n"),
+        (&[2], 1000, b"fault read p\n"),
+        (&[2], 5, b"fault"),
+        (&[], 3, b"ver"),
+        (&[], 0, b""),
+    ];
+    for (fails, room, text) in rows {
+        let mut folder = MemoryFolder::new(alloc, fails.to_vec(alloc)?);
+        folder.put("f", CHAIN)?;
+        folder.put("p", b"4 0 1 2 3 0\n")?;
+        let mut out = MemorySink::new(alloc, room, Vec::new(alloc))?;
+        assert_eq!(rt;
+            lrat_run(alloc, &given, &mut folder, &mut out),
+            Status::Fault
+        );
+        assert_eq!(rt; out.bytes(), text);
     }
     Ok(())
 }

@@ -1,8 +1,8 @@
 //! The program: it makes the real folder and standard output, and ends with the number of the check's status.
 #![tactic(auto)]
 
-use rsfq_outside::{DiskFolder, Status, StdoutSink};
 use lrat_check::lrat_run;
+use rsfq_outside::{DiskFolder, Status, StdoutSink};
 use std::io::ErrorKind;
 use std::process::ExitCode;
 use std::{env, io};

@@ -1,5 +1,5 @@
 use Rattle.std.proofs.Common.{subst, map}
-use Rattle.proof_arena.specs.Log.{Log, ClausesFollow}
+use Rattle.proof_arena.specs.Log.{ClausesFollow}
 use Rattle.proof_arena.specs.Held.{step_of}
 use Rattle.proof_arena.proofs.Sound.{steps_sound}
 use Rattle.proof_arena.proofs.log.ProofLog.clauses_follow.Goals as goal

@@ -3,7 +3,6 @@ use Rattle.std.specs.Prelude.{◌==◌}
 use Rattle.std.proofs.lemmas.List.{length-map}
 use Rattle.proof_arena.specs.Step.{makes_false}
 use Rattle.proof_arena.specs.Table.{Marked, falses_of}
-use Rattle.proof_arena.specs.Stamps.{marked_of}
 use Rattle.proof_arena.proofs.Marked.{beyond_falses, inserted}
 use Rattle.proof_arena.proofs.marks.Marks.make_any_false.Goals as goal
 use Rattle.proof_arena.proofs.marks.Marks.make_any_false.Goals.{in-Ok, in-Err}

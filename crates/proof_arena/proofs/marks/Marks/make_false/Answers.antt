@@ -1,5 +1,4 @@
-use Rattle.std.proofs.Common.{◌≡◌, ◌∙◌, ◌<◌, Bool, List, ap, subst, sym, length, map, set}
-use Rattle.std.specs.Prelude.{◌==◌}
+use Rattle.std.proofs.Common.{◌∙◌, ◌<◌, ap, subst, sym, length}
 use Rattle.proof_arena.specs.Step.{makes_false}
 use Rattle.proof_arena.specs.Table.{Marked, falses_of}
 use Rattle.proof_arena.specs.Stamps.{marked_of}
