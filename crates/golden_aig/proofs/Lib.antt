@@ -3,3 +3,4 @@ pub mod Tables
 pub mod Places
 pub mod PortLists
 pub mod Texts
+pub mod Samples
