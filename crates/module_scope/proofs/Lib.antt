@@ -2,3 +2,5 @@ pub mod FirstPlaces
 pub mod Doubles
 pub mod NameRanges
 pub mod Known
+pub mod OneRange
+pub mod Wide

@@ -4,7 +4,7 @@ use Rattle.verilog_sites.specs.declared.sort.Sort.{Sort}
 use Rattle.verilog_sites.specs.declared.sort.Sort.TheVariants as sort
 use Rattle.verilog_sites.specs.Sites.{Operand, Site, Module, Listed, Port, Wire, Assign, Instance, Named, Ordered, Assigned, Linked}
 use Rattle.std.proofs.lemmas.Option.{slice_get_within}
-use Rattle.verilog_sites.specs.Scope.{IsAt, Stands, HasDirection, HasDeclaration, IsLinked, IsKnown, HasRange, AsPort}
+use Rattle.verilog_sites.specs.Scope.{IsPort, IsAt, Stands, HasDirection, HasDeclaration, IsLinked, IsKnown, HasRange, AsPort}
 use Rattle.verilog_sites.specs.Again.{direction_name, wire_name, linked_name, whole_name, Gives}
 use Rattle.verilog_sites.specs.Index.{IsNotGiven, IsFirstPlace}
 use Rattle.module_scope.specs.Scoped.{Declares, declared_range}
@@ -54,11 +54,16 @@ linked_is (Assigned o) name e = absurd cc
 
 -- ---- what a name is
 
-pub port_range : (all : List Site) (name : List ℕ) (at : ℕ) (range : Option (ℕ × ℕ)) → Gives sort.Direction all at name → Declares all at range → HasRange all name range
-port_range all name at range gives declares =
+pub port_stands : (all : List Site) (name : List ℕ) (at : ℕ) (range : Option (ℕ × ℕ)) → Gives sort.Direction all at name → Declares all at range → (output : Bool) × IsPort all name output range
+port_stands all name at range gives declares =
     let is = direction_is gives.0 name gives.2 in
     let same : gives.0 ≡ Port name is.0 range = is.1 ∙ ap (λ (r : Option (ℕ × ℕ)). Port name is.0 r) (sym (declares gives.0 gives.1)) in
-    AsPort is.0 (at, subst (λ (s : Site). IsAt all at s) same gives.1)
+    (is.0, (at, subst (λ (s : Site). IsAt all at s) same gives.1))
+
+pub port_range : (all : List Site) (name : List ℕ) (at : ℕ) (range : Option (ℕ × ℕ)) → Gives sort.Direction all at name → Declares all at range → HasRange all name range
+port_range all name at range gives declares =
+    let stands = port_stands all name at range gives declares in
+    AsPort stands.0 stands.1
 
 pub wire_stands : (all : List Site) (name : List ℕ) (at : ℕ) (range : Option (ℕ × ℕ)) → Gives sort.Wire all at name → Declares all at range → Stands all (Wire name range)
 wire_stands all name at range gives declares =

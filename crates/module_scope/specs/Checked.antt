@@ -1,8 +1,9 @@
 -- What the tests of a module's names look at.
-use Rattle.std.specs.Prelude.{◌≢◌, ℕ, ◌<◌, List, Option, Some, None}
+use Rattle.std.specs.Prelude.{◌≡◌, Bool, ◌≢◌, ℕ, ◌<◌, List, Option, Some, None}
 use Rattle.verilog_sites.specs.declared.sort.Sort.{Sort}
 use Rattle.verilog_sites.specs.Sites.{Site, Assigned, Linked}
-use Rattle.verilog_sites.specs.Scope.{HasRange}
+use Rattle.verilog_sites.specs.Selects.{width_of}
+use Rattle.verilog_sites.specs.Scope.{IsPort, HasRange}
 use Rattle.verilog_sites.specs.Again.{Gives}
 use Rattle.verilog_sites.specs.Refused.{IsOutside}
 use Rattle.module_scope.specs.Scoped.{Declares}
@@ -35,3 +36,7 @@ IsRefusedSelect all name select = (range : Option (ℕ × ℕ)) × HasRange all 
 -- an earlier site of a sort declares another range for a name
 abbrev pub IsOtherBefore : Sort → List Site → ℕ → List ℕ → Option (ℕ × ℕ) → Type 0
 IsOtherBefore by all at name range = (earlier : ℕ) × (other : Option (ℕ × ℕ)) × (earlier < at) × Gives by all earlier name × Declares all earlier other × (range ≢ other)
+
+-- a port that is wider than 4,096 bits, by its name
+abbrev pub IsWidePort : List Site → List ℕ → ℕ → Type 0
+IsWidePort all name width = (output : Bool) × (range : Option (ℕ × ℕ)) × IsPort all name output range × (width ≡ width_of range) × (4096 < width)

@@ -6,10 +6,14 @@ ghost use Rattle.verilog_sites.specs.Scope.{IsKnown, HasRange};
 ghost use Rattle.verilog_sites.specs.Refused.{IsUnknownName, IsOutside, IsOutOfRange, IsTooWide};
 ghost use Rattle.verilog_sites.specs.View.{view_site};
 ghost use Rattle.module_scope.specs.Scoped.{IsScope, HasNoDouble, sites_of};
-ghost use Rattle.module_scope.specs.Checked.{wanted_name, select_at, selected_name, select_of, IsRefusedSelect};
+ghost use Rattle.module_scope.specs.Checked.{wanted_name, select_at, selected_name, select_of, IsRefusedSelect, IsWidePort};
 
+use crate::ranges::width_of;
 use crate::scope::Scope;
-use verilog_sites::{Operand, Site};
+use verilog_sites::{Operand, Site, Sort};
+
+/// The greatest width of a port in bits.
+pub const WIDTH_LIMIT: u64 = 4096;
 
 /// The name of an operand of which bits are selected.
 fn selected_name<'a>(operand: Operand<'a>) -> Option<&'a str>
@@ -55,6 +59,36 @@ impl<'a> Scope<'_, 'a> {
         match self.range_of(name) {
             Some(_) => None,
             None => Some(name),
+        }
+    }
+
+    /// The width in bits of the port that is listed at a place, where it is above the limit of 4,096.
+    pub fn too_wide(&self, at: usize) -> Option<u64>
+        requires scope { IsScope self.now }
+        requires single { HasNoDouble (sites_of self.now) (length (sites_of self.now)) }
+        requires there { at < length (sites_of self.now) }
+        ensures found { IfSome result (λ width. IsTooWide (sites_of self.now) at width) }
+        ensures none { IfNone result ((width : ℕ) → ¬ IsTooWide (sites_of self.now) at width) }
+    {
+        match Sort::Listed.name(&self.sites[at]) {
+            Some(name) => self.wide_port(name),
+            None => None,
+        }
+    }
+
+    /// The width of a port, where it is above the limit.
+    fn wide_port(&self, name: &str) -> Option<u64>
+        requires scope { IsScope self.now }
+        requires single { HasNoDouble (sites_of self.now) (length (sites_of self.now)) }
+        ensures found { IfSome result (IsWidePort (sites_of self.now) name.now) }
+        ensures none { IfNone result ((width : ℕ) → ¬ IsWidePort (sites_of self.now) name.now width) }
+    {
+        let at = self.directions.find(name)?;
+        let width = width_of(self.range_at(at));
+        if width > WIDTH_LIMIT {
+            Some(width)
+        } else {
+            None
         }
     }
 }

@@ -6,6 +6,7 @@ mod index;
 mod ranges;
 mod scope;
 
+pub use checks::WIDTH_LIMIT;
 pub use index::Index;
 pub use ranges::{select, width_of};
 pub use scope::Scope;

@@ -49,7 +49,7 @@ impl<'s, 'a> Scope<'s, 'a> {
     }
 
     /// The range that the site at a place declares.
-    fn range_at(&self, at: usize) -> Option<(u32, u32)>
+    pub(crate) fn range_at(&self, at: usize) -> Option<(u32, u32)>
         requires { at < length (sites_of self.now) }
         ensures { Declares (sites_of self.now) at result }
     {

@@ -1,0 +1,80 @@
+-- Ports that are too wide.
+use Rattle.std.proofs.Common.{◌≡◌, ℕ, ◌<◌, ◌≤◌, List, Option, Some, None, IfSome, IfNone, length, sym, ◌∙◌, ap, subst, arith}
+use Rattle.verilog_sites.specs.Selects.{width_of}
+use Rattle.verilog_sites.specs.declared.sort.Sort.TheVariants as sort
+use Rattle.verilog_sites.specs.Sites.{Site, Module, Listed, Port, Wire, Assign, Instance, Named, Ordered, Assigned, Linked}
+use Rattle.verilog_sites.specs.Scope.{IsAt, IsPort}
+use Rattle.verilog_sites.specs.Again.{listed_name, Gives}
+use Rattle.verilog_sites.specs.Index.{IsNotGiven}
+use Rattle.verilog_sites.specs.Refused.{IsTooWide}
+use Rattle.module_scope.specs.Checked.{IsWidePort}
+use Rattle.module_scope.specs.Scoped.{Declares, HasNoDouble}
+use Rattle.module_scope.proofs.NameRanges.{port_stands, no_direction}
+use Rattle.module_scope.proofs.OneRange.{one_port}
+
+listed_is : (site : Site) (name : List ℕ) → listed_name site ≡ Some name → site ≡ Listed name
+listed_is (Listed n) name e = let same : n ≡ name = cc in ap Listed same
+listed_is (Wire n range) name e = absurd cc
+listed_is (Port n output range) name e = absurd cc
+listed_is (Module n) name e = absurd cc
+listed_is (Assign to from) name e = absurd cc
+listed_is (Instance kind n links) name e = absurd cc
+listed_is (Named kind n expr) name e = absurd cc
+listed_is (Ordered kind n expr) name e = absurd cc
+listed_is (Assigned o) name e = absurd cc
+listed_is (Linked o) name e = absurd cc
+
+one_site : (all : List Site) (at : ℕ) (a b : Site) → IsAt all at a → IsAt all at b → a ≡ b
+one_site all at a b h k = some_same (sym h ∙ k) where
+  some_same : Some a ≡ Some b → a ≡ b
+  some_same e = cc
+
+too_wide : (all : List Site) (at : ℕ) (site : Site) (name : List ℕ) (width : ℕ) → IsAt all at site → listed_name site ≡ Some name → IsWidePort all name width → IsTooWide all at width
+too_wide all at site name width there is wide = record {
+  name = name;
+  output = wide.0;
+  range = wide.1;
+  there = subst (λ (s : Site). IsAt all at s) (listed_is site name is) there;
+  port = wide.2;
+  width_is = wide.3;
+  wide = wide.4;
+}
+
+pub wide_found : (all : List Site) (at : ℕ) (site : Site) (name : List ℕ) (r : Option ℕ) → IsAt all at site → listed_name site ≡ Some name → IfSome r (IsWidePort all name) → IfSome r (λ width. IsTooWide all at width)
+wide_found all at site name None there is h = tt
+wide_found all at site name (Some width) there is h = too_wide all at site name width there is h
+
+listed_there : (all : List Site) (at : ℕ) (site : Site) (width : ℕ) → IsAt all at site → (h : IsTooWide all at width) → listed_name site ≡ Some h.name
+listed_there all at site width there h = ap listed_name (one_site all at site (Listed h.name) there h.there)
+
+pub wide_none : (all : List Site) (at : ℕ) (site : Site) (name : List ℕ) (r : Option ℕ) → IsAt all at site → listed_name site ≡ Some name → IfNone r ((width : ℕ) → ¬ IsWidePort all name width)
+    → IfNone r ((width : ℕ) → ¬ IsTooWide all at width)
+wide_none all at site name (Some width) there is h = tt
+wide_none all at site name None there is h = λ width wide.
+    let same : wide.name ≡ name = some_same (sym (listed_there all at site width there wide) ∙ is) in
+    h width (wide.output, wide.range, subst (λ (n : List ℕ). IsPort all n wide.output wide.range) same wide.port, wide.width_is, wide.wide) where
+      some_same : {A : Type 0} {a b : A} → Some a ≡ Some b → a ≡ b
+      some_same e = cc
+
+pub wide_unlisted : (all : List Site) (at : ℕ) (site : Site) → IsAt all at site → listed_name site ≡ None → (width : ℕ) → ¬ IsTooWide all at width
+wide_unlisted all at site there nothing = λ width wide. never wide.name (sym nothing ∙ listed_there all at site width there wide) where
+  never : (n : List ℕ) → None ≡ Some n → ⊥
+  never n e = cc
+
+-- ---- a port by its name
+
+pub port_is_wide : (all : List Site) (name : List ℕ) (at : ℕ) (range : Option (ℕ × ℕ)) (width : ℕ) → Gives sort.Direction all at name → Declares all at range → width ≡ width_of range → 4096 < width → IsWidePort all name width
+port_is_wide all name at range width gives declares is wide =
+    let stands = port_stands all name at range gives declares in
+    (stands.0, range, stands.1, is, wide)
+
+pub port_fits : (all : List Site) (name : List ℕ) (at : ℕ) (range : Option (ℕ × ℕ)) (width : ℕ) → HasNoDouble all (length all) → Gives sort.Direction all at name → Declares all at range → width ≡ width_of range → width ≤ 4096
+    → (other : ℕ) → ¬ IsWidePort all name other
+port_fits all name at range width single gives declares is fits = λ other wide.
+    let stands = port_stands all name at range gives declares in
+    let same : wide.1 ≡ range = one_port all name wide.0 stands.0 wide.1 range single wide.2 stands.1 in
+    let equal : other ≡ width = wide.3 ∙ ap width_of same ∙ sym is in
+    omega (arith, wide.4, equal, fits)
+
+pub no_port : (all : List Site) (name : List ℕ) → IsNotGiven sort.Direction all (length all) name → (width : ℕ) → ¬ IsWidePort all name width
+no_port all name none = λ width wide. no_direction all name none (wide.0, wide.1, wide.2)
