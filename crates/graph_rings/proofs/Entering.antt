@@ -1,5 +1,5 @@
 -- A node that is put at the end of the path as a group of its own keeps what a search knows.
-use Rattle.std.proofs.Common.{◌≡◌, ◌≢◌, ◌∙◌, ◌<◌, ◌≤◌, ◌+◌, ◌⊎◌, inl, inr, ℕ, Bool, true, false, List, [], ◌∷◌, ◌++◌, length, refl, sym, subst, ap, arith, get_or, set, length-append, length-set}
+use Rattle.std.proofs.Common.{◌≡◌, ◌≢◌, ◌∙◌, ◌<◌, ◌≤◌, ◌⊎◌, inl, inr, ℕ, Bool, true, false, List, [], ◌∷◌, ◌++◌, length, refl, sym, subst, ap, arith, get_or, set, length-append, length-set}
 use Rattle.std.specs.List.{Contains}
 use Rattle.std.proofs.Math.ListN.{get_or-append}
 use Rattle.std.proofs.Math.Seq.{get_or-append_seam}
@@ -9,9 +9,9 @@ use Rattle.std.proofs.lemmas.List.{get_or-set_other}
 use Rattle.std.proofs.lemmas.List.Elements.{Contains-get_or, Contains-append_left, Contains-push, Contains-push_cases}
 use Rattle.graph_rings.specs.declared.search.Mark.{Mark}
 use Rattle.graph_rings.specs.declared.search.Mark.TheVariants as mark
-use Rattle.graph_rings.specs.Graph.{edges_of, HasEdge, Leads, Reaches}
-use Rattle.graph_rings.specs.Search.{mark_of, HasNoBase, IsLooked, Rises, IsSearch}
-use Rattle.graph_rings.proofs.Lists.{in_at, at_in, at_pushed, rises_pushed}
+use Rattle.graph_rings.specs.Graph.{edges_of, Leads, Reaches}
+use Rattle.graph_rings.specs.Search.{mark_of, HasNoBase, IsLooked, IsSearch}
+use Rattle.graph_rings.proofs.Lists.{at_pushed, rises_pushed}
 
 -- the mark of each node after one was marked
 marked : (marks : List Mark) (node : ℕ) (m : Mark) → node < length marks → (n : ℕ) → ((n ≡ node) × (mark_of (set marks node m) n ≡ m)) ⊎ ((n ≢ node) × (mark_of (set marks node m) n ≡ mark_of marks n))

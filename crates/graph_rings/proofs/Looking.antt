@@ -1,15 +1,15 @@
 -- An edge that was looked at is one fewer that is left; groups are joined; a node without edges left leaves the stack.
-use Rattle.std.proofs.Common.{◌≡◌, ◌≢◌, ◌∙◌, ◌<◌, ◌≤◌, ◌+◌, ◌-◌, ◌⊎◌, ◌↔◌, inl, inr, ℕ, Bool, true, false, List, [], ◌∷◌, ◌++◌, length, refl, sym, subst, ap, arith, get_or, set, length-append, length-set}
+use Rattle.std.proofs.Common.{◌≡◌, ◌≢◌, ◌∙◌, ◌<◌, ◌≤◌, ◌-◌, ◌⊎◌, ◌↔◌, inl, inr, ℕ, List, [], ◌∷◌, ◌++◌, length, refl, sym, subst, ap, arith, get_or, set, length-set}
 use Rattle.std.specs.List.{Contains}
 use Rattle.std.proofs.lemmas.Bool.{cases_eq, cases_lt}
 use Rattle.std.proofs.lemmas.Grind.{get_or-set_at}
 use Rattle.std.proofs.lemmas.List.{get_or-set_other}
-use Rattle.std.proofs.lemmas.List.Elements.{Contains-get_or, Contains-append_left, Contains-push, Contains-push_cases}
+use Rattle.std.proofs.lemmas.List.Elements.{Contains-append_left, Contains-push_cases}
 use Rattle.graph_rings.specs.declared.search.Mark.{Mark}
 use Rattle.graph_rings.specs.declared.search.Mark.TheVariants as mark
-use Rattle.graph_rings.specs.Graph.{edges_of, HasEdge, Leads, Reaches}
+use Rattle.graph_rings.specs.Graph.{edges_of, HasEdge, Leads}
 use Rattle.graph_rings.specs.Search.{mark_of, HasNoBase, IsLooked, Rises, IsSearch}
-use Rattle.graph_rings.proofs.Lists.{in_at, at_in, rises_popped}
+use Rattle.graph_rings.proofs.Lists.{rises_popped}
 use Rattle.graph_rings.proofs.Marks.{seen_below}
 use Rattle.graph_rings.proofs.Entering.{on_unseen, on_place}
 use Rattle.graph_rings.proofs.Walks.{edge_leads, leads_on}

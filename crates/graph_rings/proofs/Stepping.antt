@@ -1,17 +1,16 @@
 -- One step of a search, by what is known of the node that an edge leads to.
-use Rattle.std.proofs.Common.{◌≡◌, ◌∙◌, ◌<◌, ◌≤◌, ◌+◌, ◌-◌, ◌⊎◌, ◌↔◌, inl, inr, ℕ, Bool, true, false, List, [], ◌∷◌, ◌++◌, Some, length, refl, sym, subst, ap, arith, get_or, set}
+use Rattle.std.proofs.Common.{◌≡◌, ◌∙◌, ◌<◌, ◌≤◌, ◌-◌, ◌↔◌, inl, inr, ℕ, Bool, List, [], ◌∷◌, ◌++◌, Some, length, refl, sym, subst, ap, arith, get_or, set}
 use Rattle.std.specs.Prelude.{slice_get}
-use Rattle.std.specs.List.{All, Contains}
+use Rattle.std.specs.List.{Contains}
 use Rattle.std.proofs.Math.ListN.{get_or-append}
 use Rattle.std.proofs.lemmas.Bool.{cases_eq, cases_lt}
 use Rattle.std.proofs.lemmas.Grind.{get_or-set_at}
-use Rattle.std.proofs.lemmas.List.Elements.{Contains-append_left, Contains-push, Contains-push_cases}
+use Rattle.std.proofs.lemmas.List.Elements.{Contains-append_left}
 use Rattle.graph_rings.specs.declared.search.Mark.{Mark}
 use Rattle.graph_rings.specs.declared.search.Mark.TheVariants as mark
 use Rattle.graph_rings.specs.Graph.{edges_of, HasEdge, Leads, Reaches}
 use Rattle.graph_rings.specs.Search.{mark_of, HasNoBase, IsLooked, Rises, IsSearch}
 use Rattle.graph_rings.proofs.Lists.{at_in}
-use Rattle.graph_rings.proofs.Marks.{seen_below}
 use Rattle.graph_rings.proofs.Entering.{entered}
 use Rattle.graph_rings.proofs.Looking.{looked_one, joined}
 use Rattle.graph_rings.proofs.Tops.{top_in, top_of}

@@ -1,16 +1,15 @@
 -- A search for a way back to a node: its beginning, its steps and its end.
-use Rattle.std.proofs.Common.{◌≡◌, ◌≢◌, ◌∙◌, ◌<◌, ◌≤◌, ◌+◌, ◌-◌, ◌⊎◌, inl, inr, ℕ, suc, Bool, true, false, List, [], ◌∷◌, ◌++◌, Some, None, map, replicate, length, refl, sym, subst, ap, arith, get_or, set, length-append, length-set, add-one}
+use Rattle.std.proofs.Common.{◌≡◌, ◌≢◌, ◌∙◌, ◌<◌, ◌≤◌, ◌+◌, ◌-◌, ◌⊎◌, inl, inr, ℕ, suc, Bool, true, false, List, [], ◌∷◌, ◌++◌, Some, None, map, replicate, length, refl, sym, subst, ap, arith, get_or, set, length-append, length-set}
 use Rattle.std.specs.Prelude.{slice_get}
 use Rattle.std.specs.List.{Contains}
-use Rattle.std.proofs.Math.ListN.{get_or-append, get_or-map, get_or-eq_default}
-use Rattle.std.proofs.Math.Seq.{get_or-append_seam}
-use Rattle.std.proofs.lemmas.Bool.{cases_eq, cases_lt, cases_Bool}
+use Rattle.std.proofs.Math.ListN.{get_or-append, get_or-eq_default}
+use Rattle.std.proofs.lemmas.Bool.{cases_eq, cases_lt}
 use Rattle.std.proofs.lemmas.Grind.{get_or-set_at}
 use Rattle.std.proofs.lemmas.List.{get_or-set_other, get_or-replicate, get_or_default, length-map, length-replicate}
-use Rattle.std.proofs.lemmas.List.Elements.{Contains-get_or, Contains-append_left, Contains-push, Contains-push_cases}
+use Rattle.std.proofs.lemmas.List.Elements.{Contains-append_left, Contains-push, Contains-push_cases}
 use Rattle.std.proofs.lemmas.Option.{slice_get_within, get_or_from_slice_get, slice_get-get_or}
 use Rattle.graph_rings.specs.declared.ring.Tour.{Tour}
-use Rattle.graph_rings.specs.Graph.{edges_of, HasEdge, IsWalk, IsRing, Leads, Reaches, IsRingThrough}
+use Rattle.graph_rings.specs.Graph.{edges_of, HasEdge, IsWalk, IsRing, Leads, IsRingThrough}
 use Rattle.graph_rings.specs.Tour.{is_seen, IsTour, IsTourOf, IsEnd}
 use Rattle.graph_rings.proofs.Lists.{in_at, at_in, at_pushed}
 use Rattle.graph_rings.proofs.Tops.{top_in}

@@ -1,5 +1,5 @@
 -- Walks are joined end to end, and stay in what no edge leaves.
-use Rattle.std.proofs.Common.{◌≡◌, ◌⊎◌, inl, inr, ℕ, List, [], ◌∷◌, ◌++◌, refl, sym, subst}
+use Rattle.std.proofs.Common.{inl, inr, ℕ, List, [], ◌∷◌, ◌++◌, refl, sym, subst}
 use Rattle.graph_rings.specs.Graph.{HasEdge, IsWalk, Leads, Reaches}
 
 walk_append : (g : List (List ℕ)) (a : ℕ) (xs : List ℕ) (b : ℕ) (ys : List ℕ) (c : ℕ) → IsWalk g a xs b → IsWalk g b ys c → IsWalk g a (xs ++ b ∷ ys) c

@@ -1,5 +1,5 @@
 -- What holds between the steps of a search for a way back to a node. It serves the proofs.
-use Rattle.std.specs.Prelude.{◌≡◌, ◌≢◌, ◌⊎◌, ℕ, ◌+◌, ◌*◌, ◌<◌, ◌≤◌, Bool, true, false, List, [], length, sum_by, slice_index_or, slice_index, slice_get, Some, ◌-◌}
+use Rattle.std.specs.Prelude.{◌≡◌, ◌≢◌, ◌⊎◌, ℕ, ◌+◌, ◌*◌, ◌<◌, ◌≤◌, Bool, true, false, List, length, sum_by, slice_index_or, slice_index, slice_get, Some, ◌-◌}
 use Rattle.std.specs.List.{Contains}
 use Rattle.graph_rings.specs.declared.ring.Tour.{Tour}
 use Rattle.graph_rings.specs.Graph.{edges_of, HasEdge}

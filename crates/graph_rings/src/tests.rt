@@ -19,10 +19,7 @@ fn graph_of(alloc: Global, rows: &[&[usize]]) -> Result<Vec<List<usize>>, AllocE
 }
 
 /// The reached nodes in their order, and the first ring. Nothing where memory is wanting.
-fn rings_of(
-    alloc: Global,
-    graph: &[List<usize>],
-) -> Result<(Survey, Option<Vec<usize>>), NoMemory>
+fn rings_of(alloc: Global, graph: &[List<usize>]) -> Result<(Survey, Option<Vec<usize>>), NoMemory>
     requires graph { IsGraph graph.now }
     requires some { 0 < length graph.now }
 {
@@ -41,7 +38,11 @@ fn a_node_reaches_what_edges_lead_to(rt: HostRuntime) -> Result<(), Fail> {
         (&[&[1], &[0]], &[0, 1], Some(&[0, 1])),
         (&[&[2, 1], &[3], &[3], &[]], &[3, 1, 2, 0], None),
         (&[&[3], &[2], &[1], &[1]], &[1, 2, 3, 0], Some(&[1, 2])),
-        (&[&[2, 4], &[1], &[3], &[2], &[5], &[4]], &[4, 5, 2, 3, 0], Some(&[2, 3])),
+        (
+            &[&[2, 4], &[1], &[3], &[2], &[5], &[4]],
+            &[4, 5, 2, 3, 0],
+            Some(&[2, 3]),
+        ),
         (&[&[3], &[2], &[3], &[1]], &[3, 1, 2, 0], Some(&[1, 2, 3])),
         (&[&[1], &[2], &[0, 1]], &[0, 1, 2], Some(&[0, 1, 2])),
     ];

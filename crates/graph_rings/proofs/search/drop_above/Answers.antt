@@ -1,6 +1,5 @@
-use Rattle.std.proofs.Common.{◌≡◌, ◌∙◌, ◌-◌, ◌<◌, ◌≤◌, ℕ, List, [], ◌∷◌, ◌++◌, length, subst, sym, ap, arith, rules, get_or}
+use Rattle.std.proofs.Common.{◌≡◌, ◌-◌, ℕ, List, [], ◌∷◌, ◌++◌, length, subst, sym, arith, rules, get_or}
 use Rattle.graph_rings.proofs.Dropping.{popped, dropped_fewer, dropped_kept, dropped_rises}
-use Rattle.graph_rings.proofs.Closing.{Closes}
 use Rattle.graph_rings.proofs.search.drop_above.Goals as goal
 
 pub loop-base-preserved : goal.loop-base-preserved

@@ -1,4 +1,4 @@
-use Rattle.std.proofs.Common.{◌≡◌, ◌≤◌, ℕ, vec_len}
+use Rattle.std.proofs.Common.{◌≤◌, ℕ, vec_len}
 use Rattle.std.specs.List.{Contains}
 use Rattle.graph_rings.specs.Search.{Rises}
 use Rattle.graph_rings.proofs.search.drop_above.Given as goal

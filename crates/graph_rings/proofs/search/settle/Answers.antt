@@ -1,4 +1,4 @@
-use Rattle.std.proofs.Common.{◌≡◌, ◌∙◌, length-set, ◌<◌, ◌≤◌, ℕ, List, length, take, subst, sym, arith, get_or, rules}
+use Rattle.std.proofs.Common.{◌∙◌, length-set, ◌<◌, ℕ, List, length, subst, sym, arith, get_or}
 use Rattle.std.specs.List.{Contains}
 use Rattle.std.proofs.lemmas.List.{take_all}
 use Rattle.graph_rings.specs.declared.search.Mark.TheVariants as mark

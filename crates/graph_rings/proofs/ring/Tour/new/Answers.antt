@@ -1,4 +1,4 @@
-use Rattle.std.proofs.Common.{◌≡◌, ℕ, List, [], ◌∷◌, Bool, true, false, map, replicate, length, set, sym, subst, rules}
+use Rattle.std.proofs.Common.{◌≡◌, ℕ, List, [], ◌∷◌, Bool, true, false, replicate, length, set, sym, subst, rules}
 use Rattle.graph_rings.specs.Tour.{IsTour}
 use Rattle.graph_rings.proofs.Touring.{toured}
 use Rattle.graph_rings.proofs.ring.Tour.new.Goals as goal

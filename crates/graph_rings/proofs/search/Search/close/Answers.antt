@@ -1,14 +1,13 @@
-use Rattle.std.proofs.Common.{◌≡◌, ◌∙◌, ◌-◌, ◌+◌, ◌<◌, ◌≤◌, ◌⊎◌, inl, inr, ℕ, Bool, true, false, List, [], ◌∷◌, ◌++◌, length, take, drop, subst, sym, ap, refl, arith, get_or, rules, length-drop}
+use Rattle.std.proofs.Common.{◌≡◌, ◌∙◌, ◌-◌, ◌+◌, ◌<◌, ◌≤◌, ◌⊎◌, inl, inr, ℕ, true, false, List, [], ◌∷◌, ◌++◌, length, take, drop, subst, sym, ap, refl, arith, get_or, rules, length-drop}
 use Rattle.std.specs.List.{Contains}
 use Rattle.std.specs.Bool.{Decides}
-use Rattle.std.proofs.Math.Dec.{ltb, eqb}
+use Rattle.std.proofs.Math.Dec.{eqb}
 use Rattle.std.proofs.lemmas.Bool.{ltb-false}
 use Rattle.std.proofs.lemmas.Bool.Decides.{Decides-eqb}
 use Rattle.std.proofs.lemmas.List.{take_all}
 use Rattle.std.proofs.lemmas.List.Elements.{contains_decides, Decides-contains}
 use Rattle.std.proofs.lemmas.Option.{get_or_from_slice_get}
 use Rattle.graph_rings.specs.Graph.{edges_of, HasEdge}
-use Rattle.graph_rings.specs.Search.{mark_of}
 use Rattle.graph_rings.proofs.Closing.{closed_by_list}
 use Rattle.graph_rings.proofs.Dropping.{popped}
 use Rattle.graph_rings.proofs.Results.{read_at, same_search}

@@ -1,4 +1,4 @@
-use Rattle.std.proofs.Common.{◌≡◌, ◌∙◌, ◌-◌, ◌+◌, ◌<◌, ◌≤◌, ℕ, List, [], ◌∷◌, ◌++◌, length, subst, sym, ap, arith, get_or, set, rules}
+use Rattle.std.proofs.Common.{◌≡◌, ◌∙◌, ◌-◌, ℕ, List, [], sym, ap, arith, get_or, rules}
 use Rattle.graph_rings.specs.declared.search.Mark.TheVariants as mark
 use Rattle.graph_rings.specs.Graph.{edges_of}
 use Rattle.graph_rings.specs.Search.{mark_of}
