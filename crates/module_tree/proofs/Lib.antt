@@ -3,3 +3,4 @@ pub mod Inner
 pub mod Meanings
 pub mod Chains
 pub mod Roots
+pub mod Twice

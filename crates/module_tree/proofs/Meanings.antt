@@ -14,7 +14,7 @@ use Rattle.module_tree.specs.Kinds.{AreKinds}
 use Rattle.module_tree.specs.Modules.{IsModuleNamed, IsCellNamed, MeansModule, MeansCell, Means}
 use Rattle.module_tree.proofs.Inner.{at_named, means_first, some_same}
 
-cell_at : (table : CellTable) (row : ℕ) (name : List ℕ) → slice_get (cell_names table) row ≡ Some name → IsCellNamed table row name
+pub cell_at : (table : CellTable) (row : ℕ) (name : List ℕ) → slice_get (cell_names table) row ≡ Some name → IsCellNamed table row name
 cell_at table row name e = go (slice_get table.rows row) refl where
   go : (o : Option CellRow) → slice_get table.rows row ≡ o → IsCellNamed table row name
   go None is = absurd (let no : None ≡ Some name = sym (slice_get-map (λ (c : CellRow). c.name) table.rows row ∙ ap (option_map (λ (c : CellRow). c.name)) is) ∙ e in cc)
@@ -22,7 +22,7 @@ cell_at table row name e = go (slice_get table.rows row) refl where
       let yes : Some cell.name ≡ Some name = sym (slice_get-map (λ (c : CellRow). c.name) table.rows row ∙ ap (option_map (λ (c : CellRow). c.name)) is) ∙ e in
       (cell, is, some_same cell.name name yes)
 
-at_cell : (table : CellTable) (row : ℕ) (name : List ℕ) → IsCellNamed table row name → slice_get (cell_names table) row ≡ Some name
+pub at_cell : (table : CellTable) (row : ℕ) (name : List ℕ) → IsCellNamed table row name → slice_get (cell_names table) row ≡ Some name
 at_cell table row name h = slice_get-map (λ (c : CellRow). c.name) table.rows row ∙ (ap (option_map (λ (c : CellRow). c.name)) h.1 ∙ ap Some h.2)
 
 module _ (modules : List Module) (table : CellTable) (kinds : Kinds) (k : AreKinds modules table kinds) (name : List ℕ) where

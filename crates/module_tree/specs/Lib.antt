@@ -4,3 +4,4 @@ pub mod Kinds
 pub mod Graph
 pub mod Reach
 pub mod Top
+pub mod Duplicates

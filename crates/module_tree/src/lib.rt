@@ -4,12 +4,17 @@
 //! A module is told by its place in text order, from 0. Where two modules have one name, the first is meant.
 #![tactic(auto)]
 
+mod duplicates;
 mod graph;
 mod kinds;
 mod reaching;
 mod top;
 
+pub use duplicates::first_duplicate;
 pub use graph::module_graph;
 pub use kinds::{Kinds, Meaning};
 pub use reaching::{Reach, reach_from};
 pub use top::{TopFault, named_top, single_top};
+
+#[cfg(test)]
+mod tests;
