@@ -6,7 +6,8 @@ use Rattle.std.proofs.lemmas.Option.{slice_get_within}
 use Rattle.verilog_sites.specs.Selects.{width_of, index_at, bit_name}
 use Rattle.verilog_sites.specs.Sites.{Site, Listed, Port}
 use Rattle.verilog_sites.specs.Scope.{IsAt, StandsBefore}
-use Rattle.verilog_sites.specs.Again.{PortSort, IsAgain, HasFirstRange, IsPrintedBefore, IsBitAgain}
+use Rattle.verilog_sites.specs.declared.sort.Sort.TheVariants as sort
+use Rattle.verilog_sites.specs.Again.{IsAgain, HasFirstRange, IsPrintedBefore, IsBitAgain}
 use Rattle.port_bits.specs.declared.crossing.Crossing.{Crossing as Found}
 use Rattle.port_bits.specs.Places.{FitsRange, FitSites}
 use Rattle.port_bits.specs.Crossing.{IsScalarAt, IsVectorBit, IsLeast, CrossesAmong}
@@ -19,15 +20,8 @@ NoneAgain all limit = (at : ℕ) (name : List ℕ) → at < limit → ¬ IsAgain
 
 -- ports are listed once
 pub listed_once : (all : List Site) (limit at : ℕ) (name : List ℕ) → NoneAgain all limit → at < limit → IsAt all at (Listed name) → ¬ StandsBefore all at (Listed name)
-listed_once all limit at name none lt there before = none at name lt (record {
-  sort = PortSort;
-  site = Listed name;
-  there = there;
-  gives = refl;
-  earlier = Listed name;
-  stands = before;
-  gives_too = refl;
-})
+listed_once all limit at name none lt there before =
+    none at name lt (sort.Listed, refl, ((Listed name, there, refl), (before.0, before.1, (Listed name, before.2, refl))))
 
 listed_twice : (all : List Site) (limit at earlier : ℕ) (name other : List ℕ) → NoneAgain all limit → at < limit → earlier < at → IsAt all at (Listed name) → IsAt all earlier (Listed other) → name ≢ other
 listed_twice all limit at earlier name other none lt less there before same =
