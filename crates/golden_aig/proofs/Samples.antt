@@ -1,8 +1,7 @@
 -- A circuit and its bench for tests: they are well formed.
-use Rattle.std.proofs.Common.{◌≡◌, ◌≢◌, ◌∙◌, ◌<◌, ◌+◌, ◌*◌, ℕ, zero, suc, Bool, true, false, refl, rules, ap, sym, subst, arith, List, [], ◌∷◌, length, get_or, Option, None, Some}
+use Rattle.std.proofs.Common.{◌≡◌, ◌≢◌, ◌∙◌, ◌<◌, ◌+◌, ◌*◌, ℕ, zero, suc, Bool, true, false, refl, rules, ap, sym, subst, arith, List, [], ◌∷◌, length, get_or, Option, Some}
 use Rattle.std.specs.Prelude.{slice_get, replicate, map, codes, pos, ◌==◌}
 use Rattle.std.proofs.lemmas.Bool.{eqb-false}
-use Rattle.std.specs.List.{All, AllPairs}
 use Rattle.std.proofs.lemmas.List.Elements.{All-nil, All-cons}
 use Rattle.std.proofs.lemmas.List.Kept.{AllPairs-cons}
 use Rattle.std.proofs.lemmas.Option.{same_Some, none-some}
