@@ -1,4 +1,4 @@
--- What other crates may cite in proofs of their own: each is the law of a function of `laws` or a clause of `lex`.
+-- What the laws of `laws` answer with: each is the clause of one of them.
 use Rattle.std.proofs.Common.{ℕ, ◌≤◌, ◌↔◌, List, length}
 use Rattle.verilog_lex.specs.Reads.{Reads, IsFault, IsOnlyReading, IsOnlyFault, HasDivision}
 use Rattle.verilog_lex.specs.Words.{words_of, AreSpelled, ArePlaced, HasOnlyBlanksBetween}

@@ -1,7 +1,9 @@
 //! Laws on readings: functions that do nothing, whose clauses serve the proofs of their callers.
 
 ghost use Rattle.std.specs.Prelude.{ℕ, ◌≤◌, ◌↔◌, List, length};
-ghost use Rattle.verilog_lex.specs.Reads.{Reads, HasDivision};
+ghost use Rattle.verilog_lex.specs.declared.token.LexWhy.{LexWhy};
+ghost use Rattle.verilog_lex.specs.declared.token.Token.{Token};
+ghost use Rattle.verilog_lex.specs.Reads.{Reads, IsFault, IsOnlyReading, IsOnlyFault, HasDivision};
 ghost use Rattle.verilog_lex.specs.Words.{words_of, AreSpelled, ArePlaced, HasOnlyBlanksBetween};
 ghost use Rattle.verilog_lex.specs.Bare.{IsBare};
 ghost use Rattle.verilog_lex.specs.Written.{WrittenWordsAreRead};
@@ -27,7 +29,13 @@ pub fn written_words_are_read()
     ensures { WrittenWordsAreRead }
 {}
 
-/// Every text has a reading or a fault. (At most one of them, as [`lex`](crate::lex) says.)
+/// Every text has a reading or a fault, and at most one of them, as [`texts_divide_in_one_way`] says.
 pub fn every_text_divides()
     ensures { (text : List ℕ) → HasDivision text }
+{}
+
+/// A text, however long, has at most one reading or one fault: a reading is the only one, and so is a fault, and no text has both.
+pub fn texts_divide_in_one_way()
+    ensures reading { (text : List ℕ) (tokens : List Token) → Reads text tokens → IsOnlyReading text tokens }
+    ensures fault { (text : List ℕ) (offset : ℕ) (why : LexWhy) → IsFault text offset why → IsOnlyFault text offset why }
 {}

@@ -15,7 +15,8 @@ mod token;
 
 pub use byte_classes::is_blank;
 pub use laws::{
-    blanks_between_are_all, every_text_divides, tokens_are_words, written_words_are_read,
+    blanks_between_are_all, every_text_divides, texts_divide_in_one_way, tokens_are_words,
+    written_words_are_read,
 };
 pub use lexing::lex;
 pub use list::{List, NoMemory};

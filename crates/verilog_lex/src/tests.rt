@@ -5,9 +5,10 @@
 
 use crate::{
     LexWhy, List, NoMemory, Token, TokenKind, blanks_between_are_all, every_text_divides, is_blank,
-    is_plain_name, lex, tokens_are_words, written_words_are_read,
+    is_plain_name, lex, texts_divide_in_one_way, tokens_are_words, written_words_are_read,
 };
 use std::alloc::{AllocError, Global};
+use std::test::Fail;
 
 /// The tokens, each with a blank behind it: a reserved word as `@input`, an escaped name as `\a+b`, a number as `#12`, others as they stand.
 fn listed(alloc: Global, text: &[u8], tokens: &[Token]) -> Result<Vec<u8>, AllocError> {
@@ -64,6 +65,7 @@ SPL x ( . a ( m ) , . q0 ( t0 ) , . q1 ( ) ) ; @endmodule ";
 #[test]
 fn reads_tokens(rt: HostRuntime) {
     every_text_divides();
+    texts_divide_in_one_way();
     written_words_are_read();
     for (text, wanted) in [
         (NETLIST, NETLIST_TOKENS),
@@ -83,6 +85,20 @@ fn reads_tokens(rt: HostRuntime) {
         ("(* \\*)x", "x "),
         ("a `timescale 1ns/1ps /* x\nb", "a b "),
         ("`celldefine\n`endcelldefine", ""),
+        ("(* a = \"b\n*)c\"\n*)/* d\n */e", "e "),
+        ("a//", "a "),
+        (
+            "999999999 000000000999999999",
+            "#999999999 #000000000999999999 ",
+        ),
+        (
+            "inout reg parameter defparam generate always initial function task",
+            "@inout @reg @parameter @defparam @generate @always @initial @function @task ",
+        ),
+        (
+            "module endmodule input output wire assign",
+            "@module @endmodule @input @output @wire @assign ",
+        ),
     ] {
         let bytes = text.as_bytes();
         assert!(rt; bytes.len() < 2_000);
@@ -108,7 +124,17 @@ fn finds_faults(rt: HostRuntime) {
         ("\\\n", 0, LexWhy::EmptyEscape),
         ("`include", 0, LexWhy::Directive),
         ("9999999999", 0, LexWhy::BigNumber),
+        (
+            "module top(input a, output y);\nassign y = 1'b0;",
+            43,
+            LexWhy::BadByte,
+        ),
         ("assign y = 1'b0;", 12, LexWhy::BadByte),
+        ("( *", 2, LexWhy::BadByte),
+        ("a *)", 2, LexWhy::BadByte),
+        ("\"a\"", 0, LexWhy::BadByte),
+        ("(* \\\" *)", 0, LexWhy::UnendedAttribute),
+        ("1000000000", 0, LexWhy::BigNumber),
         (" /*/", 1, LexWhy::UnendedComment),
         (" (*)", 1, LexWhy::UnendedAttribute),
         ("(* \" *)", 0, LexWhy::UnendedAttribute),
@@ -166,7 +192,7 @@ fn tells_plain_names_and_keeps_lists(rt: HostRuntime) {
 
 /// Bytes from 127 on stand in comments, attributes and skipped directives alone.
 #[test]
-fn knows_every_byte(rt: HostRuntime) {
+fn knows_bytes_that_are_no_characters(rt: HostRuntime) {
     for (text, wanted) in [
         (b"a/*\x7f\x80\xff*/b".as_slice(), b"a b ".as_slice()),
         (b"a//\x80\xff\nb".as_slice(), b"a b ".as_slice()),
@@ -228,6 +254,8 @@ fn longest(alloc: Global, head: &[u8], body: &[u8], tail: &[u8]) -> Result<Vec<u
 }
 
 /// Each kind of lexeme in texts of exactly 16,777,216 bytes: how many tokens, and the last one.
+///
+/// It needs the code that LLVM builds: without it the test takes longer than a test may.
 #[test]
 fn reads_the_longest_texts(rt: HostRuntime) {
     let no_token = Token {
@@ -255,6 +283,7 @@ fn reads_the_longest_texts(rt: HostRuntime) {
         ("", "0", "9", 1, last(TokenKind::Number, 0)),
         ("", " ", "module", 1, last(TokenKind::Reserved, 16_777_210)),
         ("", "\n", ";", 1, last(TokenKind::Mark, 16_777_215)),
+        ("", "ab ", ";", 5_592_406, last(TokenKind::Mark, 16_777_215)),
     ] {
         match longest(
             rt.alloc(),
@@ -268,7 +297,8 @@ fn reads_the_longest_texts(rt: HostRuntime) {
                     Ok(tokens) => {
                         assert_eq!(rt; tokens.len(), count, "at {head}{body}{tail}");
                         if count > 0 {
-                            assert_eq!(rt; tokens.get(0), Some(&wanted), "at {head}{body}{tail}");
+                            let at = count - 1;
+                            assert_eq!(rt; tokens.get(at), Some(&wanted), "at {head}{body}{tail}");
                         }
                     }
                     Err(_) => assert!(rt; false, "at {head}{body}{tail}"),
@@ -277,4 +307,28 @@ fn reads_the_longest_texts(rt: HostRuntime) {
             Err(_) => assert!(rt; false, "no memory"),
         }
     }
+}
+
+/// Faults print as their cause and their place.
+#[test]
+fn prints_faults(rt: HostRuntime) -> Result<(), Fail> {
+    for (text, wanted) in [
+        ("a #", "bad byte at byte 2"),
+        (" /*", "unended comment at byte 1"),
+        (" (*", "unended attribute at byte 1"),
+        ("a \\", "empty escape at byte 2"),
+        ("`include", "directive at byte 0"),
+        ("x 1000000000", "big number at byte 2"),
+    ] {
+        let bytes = text.as_bytes();
+        assert!(rt; bytes.len() < 2_000);
+        match lex(rt.alloc(), bytes) {
+            Ok(_) => assert!(rt; false, "at {text}"),
+            Err(fault) => {
+                let printed = format!(in rt.alloc(); "{fault}")?;
+                assert_eq!(rt; printed.as_str(), wanted);
+            }
+        }
+    }
+    Ok(())
 }
