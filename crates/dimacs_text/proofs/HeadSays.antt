@@ -9,7 +9,7 @@ use Rattle.dimacs_text.specs.Reading.{count_of, sizes_of, head_of}
 use Rattle.dimacs_text.specs.declared.head.Head.{Head}
 use Rattle.dimacs_text.proofs.PartLemmas.{take_front, split_at, drop_out}
 
-abbrev as_head : ℕ → ℕ → Head
+abbrev pub as_head : ℕ → ℕ → Head
 as_head vars clauses = record { vars = vars; clauses = clauses }
 
 abbrev counted : List ℕ → ℕ → Option Head

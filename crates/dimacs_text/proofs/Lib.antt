@@ -7,3 +7,5 @@ pub mod HeadSays
 pub mod Formed
 pub mod Results
 pub mod FieldLemmas
+pub mod Written
+pub mod ReadBack

@@ -5,7 +5,7 @@ use Rattle.std.specs.List.{filter}
 use Rattle.dimacs_text.specs.Parts.{Part, front, parts, words, has_bytes, is_empty}
 use Rattle.dimacs_text.proofs.PartLemmas.{parts_at, take_front, drop_out}
 
-some_byte : (bs : List ℕ) → 0 < length bs → not (is_empty bs) ≡ true
+pub some_byte : (bs : List ℕ) → 0 < length bs → not (is_empty bs) ≡ true
 some_byte [] lt = absurd (omega arith)
 some_byte (b ∷ bs) lt = refl
 
@@ -13,7 +13,7 @@ no_byte : (bs : List ℕ) → length bs ≡ 0 → not (is_empty bs) ≡ false
 no_byte [] none = refl
 no_byte (b ∷ bs) none = absurd (omega arith)
 
-kept : (q : Part) (qs : List Part) → has_bytes q ≡ true → filter has_bytes (q ∷ qs) ≡ q ∷ filter has_bytes qs
+pub kept : (q : Part) (qs : List Part) → has_bytes q ≡ true → filter has_bytes (q ∷ qs) ≡ q ∷ filter has_bytes qs
 kept q qs e = rw e refl
 
 left_out : (q : Part) (qs : List Part) → has_bytes q ≡ false → filter has_bytes (q ∷ qs) ≡ filter has_bytes qs

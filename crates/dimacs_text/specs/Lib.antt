@@ -2,3 +2,4 @@ pub mod Text
 pub mod Parts
 pub mod Number
 pub mod Reading
+pub mod Laws

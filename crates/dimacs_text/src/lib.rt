@@ -4,6 +4,7 @@
 mod clauses;
 mod fault;
 mod head;
+mod laws;
 mod number;
 mod parts;
 mod read;
@@ -12,7 +13,8 @@ mod tests;
 mod write;
 
 pub use fault::{TextFault, TextWhy};
-pub use number::{Signed, read_number, read_signed};
+pub use laws::texts_say_formulas;
+pub use number::{Signed, append_number, read_number, read_signed};
 pub use parts::{line_end, next_field};
 pub use read::read_dimacs;
-pub use write::write_dimacs;
+pub use write::{append_literals, write_dimacs};

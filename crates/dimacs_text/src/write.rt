@@ -65,8 +65,8 @@ fn append_clause(out: &mut Vec<u8>, clause: &[Lit]) -> Result<(), AllocError>
     out.extend_from_slice(b"0\n")
 }
 
-/// Appends the literals of a clause, each with a space behind it.
-fn append_literals(out: &mut Vec<u8>, clause: &[Lit]) -> Result<(), AllocError>
+/// Appends the literals of a clause, each with a space behind it. After a refusal some bytes may stand behind those that were there.
+pub fn append_literals(out: &mut Vec<u8>, clause: &[Lit]) -> Result<(), AllocError>
     ensures ok { OnOk result (out.new.items ≡ out.old.items ++ flat_map spaced_literal clause.now) }
     ensures err { OnErr result (take (length out.old.items) out.new.items ≡ out.old.items) }
 {
