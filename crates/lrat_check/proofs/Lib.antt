@@ -7,3 +7,5 @@ pub mod Parses
 pub mod PlainWords
 pub mod Utf8Words
 pub mod Settled
+pub mod StepLines
+pub mod Accepted

@@ -6,3 +6,4 @@ pub mod Grammar
 pub mod Usage
 pub mod Report
 pub mod Run
+pub mod Written

@@ -7,6 +7,7 @@
 mod check;
 mod fault;
 mod field;
+mod laws;
 mod line;
 mod report;
 mod run;
@@ -14,7 +15,10 @@ mod table;
 #[cfg(test)]
 mod tests;
 mod words;
+mod write;
 
 pub use check::check_text;
 pub use fault::{LratFault, LratWhy};
+pub use laws::ended_log_is_accepted;
 pub use run::lrat_run;
+pub use write::write_lrat;
