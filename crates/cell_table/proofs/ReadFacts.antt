@@ -15,8 +15,8 @@ use Rattle.rsfq_ids.specs.WellFormed.{AreDistinct, IsTable}
 use Rattle.table_fields.specs.Names.{place_of, with_name}
 use Rattle.table_fields.specs.Records.{field, first_of}
 use Rattle.table_fields.proofs.Places.{place_there}
-use Rattle.cell_table.specs.Cells.{AreCellsOf, HasPlainNames, IsFirstFault, cell_fault, first_names, repeated_fault, row_fault}
-use Rattle.cell_table.proofs.RowFacts.{any_here, cell_parts, is_row, plain_row}
+use Rattle.cell_table.specs.Cells.{AreCellsOf, HasPlainNames, HaveDigits, IsFirstFault, cell_fault, first_names, repeated_fault, row_fault}
+use Rattle.cell_table.proofs.RowFacts.{any_here, cell_parts, is_row, plain_row, row_digits}
 
 -- what holds of each item and its place, and of one more
 pub each_push : {X : Type 0} (P : ℕ → X → Type 0) (xs : List X) (x : X) → ((i : ℕ) (d : X) → i < length xs → P i (get_or xs i d)) → P (length xs) x
@@ -107,6 +107,10 @@ table_fits records table cells = record {
 pub table_plain : (records : List (List (List ℕ))) (table : CellTable) → AreCellsOf records table → All HasPlainNames table.rows
 table_plain records table cells k d less =
     plain_row (first_names records k) (get_or records (suc k) []) (get_or table.rows k d) (cells.cells k d less) (cells.passed (suc k) (omega (arith, cells.count)))
+
+pub table_digits : (records : List (List (List ℕ))) (table : CellTable) → AreCellsOf records table → HaveDigits records table
+table_digits records table cells k d less =
+    row_digits (first_names records k) (get_or records (suc k) []) (get_or table.rows k d) (cells.cells k d less) (cells.passed (suc k) (omega (arith, cells.count)))
 
 -- bytes without a record have no head
 pub no_records : {X : Type 0} (f : X → List (List ℕ)) (xs : List X) → (length xs == 0) ≡ true → IsFirstFault (map f xs) (record { row = 0; why = Header })

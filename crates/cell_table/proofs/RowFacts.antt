@@ -1,12 +1,14 @@
 -- What the checks of a cell say of its row.
-use Rattle.std.proofs.Common.{◌≡◌, ◌∙◌, ◌&&◌, ◌||◌, ◌*◌, ◌-◌, ◌^◌, ℕ, zero, suc, ◌<◌, ◌≤◌, pos, Bool, true, false, not, sym, refl, ap, subst, arith, List, [], ◌∷◌, ◌++◌, length, get_or, eqb, eqb-true, Option, Some, None}
-use Rattle.std.specs.Prelude.{is_some, nat_le, option_to_list, unwrap_or}
+use Rattle.std.proofs.Common.{◌≡◌, ◌∙◌, ◌&&◌, ◌||◌, ◌+◌, ◌*◌, ◌-◌, ◌/◌, ◌^◌, ℕ, zero, suc, ◌<◌, ◌≤◌, pos, Bool, true, false, not, sym, refl, ap, subst, arith, List, [], ◌∷◌, ◌++◌, length, get_or, eqb, eqb-true, Option, Some, None}
+use Rattle.std.specs.Prelude.{is_some, nat_le, option_to_list, slice_index, unwrap_or}
+use Rattle.std.specs.Int.{bit_at}
 use Rattle.table_fields.specs.Names.{is_plain_name}
 use Rattle.std.specs.List.{list_all, list_any}
 use Rattle.std.specs.Str.{bytes_eq}
 use Rattle.std.specs.Str.Parse.{digits_value}
 use Rattle.std.proofs.Math.Pow.{pow_mono}
 use Rattle.std.proofs.lemmas.Bool.{false≢true}
+use Rattle.std.proofs.lemmas.Nat.Bits.{bit_at_lowest, bit_at-suc}
 use Rattle.std.proofs.lemmas.Slice.Eq.{bytes_eq-Decides}
 use Rattle.std.proofs.Math.Nat.{pow-suc}
 use Rattle.rsfq_ids.specs.declared.table.Kind.{Kind}
@@ -18,7 +20,7 @@ use Rattle.rsfq_ids.specs.WellFormed.{AreDistinct, FitsKind, IsPositiveTime, IsR
 use Rattle.table_fields.specs.Records.{count_fault, empty_fault, field, text_fault, first_of, is_empty, time_fault, time_of, unless}
 use Rattle.table_fields.proofs.CheckFacts.{and_left, and_right, none_first, none_later, passed}
 use Rattle.table_fields.proofs.TimeFacts.{interval, nat_le-true, time_any, time_within}
-use Rattle.cell_table.specs.Cells.{HasPlainNames, StandsFor, cell_fault, kind_in, repeated_fault, start_fault}
+use Rattle.cell_table.specs.Cells.{HasDigits, HasPlainNames, StandsFor, cell_fault, kind_in, repeated_fault, start_fault}
 use Rattle.cell_table.specs.Fields.{fits_function, function_fault, guard_fault, is_bit, least_dead, times_fault, truth_of}
 use Rattle.cell_table.specs.Kinds.{are_distinct, are_pins, clock_of, clock_pins, fits_inputs, fits_outputs, has_counts, kind_of, kind_text, names_in, pins_fault, pins_of}
 
@@ -67,6 +69,17 @@ truth_small (digit ∷ digits) e =
     let here = small_digit digit (and_left (is_bit digit) (list_all is_bit digits) e) in
     let later = truth_small digits (and_right (is_bit digit) (list_all is_bit digits) e) in
     omega (arith, double, here, later)
+
+truth_digit : (digits : List ℕ) → list_all is_bit digits ≡ true → (place : ℕ) → place < length digits → bit_at (truth_of digits) place ≡ slice_index digits place - 48
+truth_digit [] e place less = absurd (omega arith)
+truth_digit (digit ∷ digits) e zero less =
+    let here = small_digit digit (and_left (is_bit digit) (list_all is_bit digits) e) in
+    bit_at_lowest ((digit - 48) + 2 * truth_of digits) ∙ omega (arith, here)
+truth_digit (digit ∷ digits) e (suc place) less =
+    let here = small_digit digit (and_left (is_bit digit) (list_all is_bit digits) e) in
+    let half : ((digit - 48) + 2 * truth_of digits) / 2 ≡ truth_of digits = omega (arith, here) in
+    bit_at-suc ((digit - 48) + 2 * truth_of digits) place
+    ∙ (ap (λ n. bit_at n place) half ∙ truth_digit digits (and_right (is_bit digit) (list_all is_bit digits) e) place (omega arith))
 
 -- ---- times
 
@@ -287,3 +300,15 @@ plain_row earlier fields row stands none =
       ap (list_all is_plain_name) (row_pins fields row stands)
           ∙ and_left (list_all is_plain_name (pins_of row.kind (field fields 2) (field fields 3) (field fields 4))) (are_distinct (pins_of row.kind (field fields 2) (field fields 3) (field fields 4))) (and_right counts named both),
     )
+
+-- and its truth table has the digits
+pub row_digits : (earlier fields : List (List ℕ)) (row : CellRow) → StandsFor fields row → cell_fault earlier fields ≡ None → HasDigits fields row
+row_digits earlier fields row stands none =
+    let parts = cell_parts earlier fields none in
+    let inputs : ℕ = length (names_in (field fields 2)) in
+    let bits : list_all is_bit (field fields 5) ≡ true =
+    all_bits (kind_in fields) inputs (field fields 5) (passed (fits_function (kind_in fields) inputs (field fields 5)) Function parts.third) in
+    record {
+      each = λ place less. ap (λ t. bit_at t place) stands.truth ∙ truth_digit (field fields 5) bits place less;
+      no_more = subst (λ t. t < 2 ^ length (field fields 5)) (sym stands.truth) (truth_small (field fields 5) bits);
+    }

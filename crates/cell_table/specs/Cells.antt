@@ -1,5 +1,6 @@
 -- The cell table that bytes stand for, and the first fault of bytes that stand for none.
-use Rattle.std.specs.Prelude.{◌≡◌, ℕ, zero, suc, ◌+◌, ◌<◌, true, max, List, [], ◌∷◌, ◌++◌, codes, drop, take, map, length, slice_index_or, Option, Some, None, is_some, unwrap_or, option_to_list}
+use Rattle.std.specs.Prelude.{◌≡◌, ℕ, zero, suc, ◌+◌, ◌-◌, ◌^◌, ◌<◌, true, max, List, [], ◌∷◌, ◌++◌, codes, drop, take, map, length, slice_index, slice_index_or, Option, Some, None, is_some, unwrap_or, option_to_list}
+use Rattle.std.specs.Int.{bit_at}
 use Rattle.std.specs.Option.{option_map}
 use Rattle.std.specs.List.{list_all}
 use Rattle.rsfq_ids.specs.declared.table.Kind.{Kind}
@@ -84,3 +85,12 @@ pub record AreCellsOf (records : List (List (List ℕ))) (table : CellTable) : T
 -- the names of a cell and of its pins are plain names that are not reserved
 abbrev pub HasPlainNames : CellRow → Type 0
 HasPlainNames row = (is_plain_name row.name ≡ true) × (list_all is_plain_name (row.inputs ++ option_to_list row.clock ++ row.outputs) ≡ true)
+
+-- Bit r of a cell's truth table is the digit at place r of its truth string, and no bit stands behind the last digit.
+pub record HasDigits (fields : List (List ℕ)) (row : CellRow) : Type 0 where
+  pub each : (place : ℕ) → place < length (field fields 5) → bit_at row.truth place ≡ slice_index (field fields 5) place - 48
+  pub no_more : row.truth < 2 ^ length (field fields 5)
+
+-- each row but the head has the truth table of its digits
+abbrev pub HaveDigits : List (List (List ℕ)) → CellTable → Type 0
+HaveDigits records table = (place : ℕ) (d : CellRow) → place < length table.rows → HasDigits (slice_index_or records (suc place) []) (slice_index_or table.rows place d)

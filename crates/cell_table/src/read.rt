@@ -7,7 +7,7 @@ ghost use Rattle.rsfq_ids.specs.WellFormed.{IsTable};
 ghost use Rattle.rsfq_ids.specs.declared.table.CellRow.{CellRow};
 ghost use Rattle.rsfq_ids.specs.declared.table_fault.TableWhy.{TableWhy};
 ghost use Rattle.table_fields.specs.Records.{head_fault, records_of};
-ghost use Rattle.cell_table.specs.Cells.{AreCellsOf, HasPlainNames, IsFirstFault, StandsFor, first_names, head, row_fault};
+ghost use Rattle.cell_table.specs.Cells.{AreCellsOf, HasPlainNames, HaveDigits, IsFirstFault, StandsFor, first_names, head, row_fault};
 
 use crate::cell::read_cell;
 use csv::ByteRecord;
@@ -107,6 +107,7 @@ pub fn read_cells(alloc: Global, bytes: &[u8]) -> Result<CellTable, TableFault>
     ensures cells { IfOk result (AreCellsOf (records_of bytes.now)) }
     ensures well_formed { IfOk result IsTable }
     ensures plain { IfOk result (λ table. All HasPlainNames table.rows) }
+    ensures digits { IfOk result (HaveDigits (records_of bytes.now)) }
     ensures fault { IfErr result (λ fault. fault.why ≢ TableWhy.Memory → IsFirstFault (records_of bytes.now) fault) }
     ensures few_refused { IfErr result (λ fault. fault.why ≢ TableWhy.Memory → length (records_of bytes.now) < 2 ^ 32) }
 {
