@@ -135,17 +135,17 @@ mod tests {
     fn add_clauses<const PINS: usize>(
         alloc: Global,
         rows: u16,
-        literals: &[u32; 4],
+        literals: &[u32; 5],
         into: &mut List<List<Lit>>,
     ) -> Result<(), NoMemory>
-        requires { PINS ≤ 3 }
+        requires { PINS ≤ 4 }
     {
         let table: Truth<PINS> = Truth::new(rows);
         let mut inputs = [Lit::of(0); PINS];
         for place in 0..PINS {
             inputs[place] = Lit::of(literals[place]);
         }
-        table.clauses(alloc, &inputs, Lit::of(literals[3]), into)
+        table.clauses(alloc, &inputs, Lit::of(literals[4]), into)
     }
 
     fn text_of(rt: &HostRuntime, clauses: &[List<Lit>]) -> Result<String, Fail> {
@@ -160,19 +160,30 @@ mod tests {
         Ok(text)
     }
 
-    // The pins' literals from the first on; the last of the four is the output's. A literal is twice its variable, plus 1 for the negation.
+    // The pins' literals from the first on; the last of the five is the output's. A literal is twice its variable, plus 1 for the negation.
     #[test]
     fn tables_have_their_clauses(rt: HostRuntime) -> Result<(), Fail> {
-        let cases: [(usize, u16, [u32; 4], &str); 5] = [
-            (1, 0b10, [2, 0, 0, 4], "2 5 0 3 4 0 "),
-            (1, 0b01, [2, 0, 0, 4], "2 4 0 3 5 0 "),
-            (2, 0b1000, [2, 4, 0, 6], "2 4 7 0 3 4 7 0 2 5 7 0 3 5 6 0 "),
-            (2, 0b0110, [2, 2, 0, 6], "2 7 0 3 7 0 "),
+        let cases: [(usize, u16, [u32; 5], &str); 6] = [
+            (1, 0b10, [2, 0, 0, 0, 4], "2 5 0 3 4 0 "),
+            (1, 0b01, [2, 0, 0, 0, 4], "2 4 0 3 5 0 "),
+            (
+                2,
+                0b1000,
+                [2, 4, 0, 0, 6],
+                "2 4 7 0 3 4 7 0 2 5 7 0 3 5 6 0 ",
+            ),
+            (2, 0b0110, [2, 2, 0, 0, 6], "2 7 0 3 7 0 "),
             (
                 3,
                 0b1110_1000,
-                [0, 0, 2, 4],
+                [0, 0, 2, 0, 4],
                 "0 2 5 0 1 2 4 0 0 3 5 0 1 3 4 0 ",
+            ),
+            (
+                4,
+                0b1000_0001_0000_0000,
+                [0, 0, 0, 2, 4],
+                "0 2 5 0 1 2 5 0 0 3 4 0 1 3 4 0 ",
             ),
         ];
         for (pins, rows, literals, wanted) in cases {
@@ -190,6 +201,7 @@ mod tests {
         assert!(rt; by_pins!(1, digit_at(0b10, 1)));
         assert!(rt; !by_pins!(2, digit_at(0b0110, 0)));
         assert!(rt; by_pins!(3, digit_at(0b1110_1010, 1)));
+        assert!(rt; by_pins!(4, digit_at(0b10, 1)));
         Ok(())
     }
 }
