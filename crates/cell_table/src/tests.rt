@@ -85,7 +85,7 @@ fn with_head(rt: &HostRuntime, rows: &[u8]) -> Result<Vec<u8>, Fail> {
 
 #[test]
 fn tables_are_read(rt: HostRuntime) -> Result<(), Fail> {
-    let cases: [(&[u8], &str); 7] = [
+    let cases: [(&[u8], &str); 8] = [
         (
             b"JTL,jtl,a,,q,,2000,3000,,,0\nSPL,split,a,,q0 q1,,3000,4000,,,0\nMRG,merge,a b,,q,,4000,5000,,,5000\nDFF,gate,a,clk,q,01,5000,7000,2000,1000,10000\nNOT,gate,a,clk,q,10,6000,8000,2000,1000,10000\nAND,gate,a b,clk,q,0001,6000,8000,2000,1000,10000\nXOR,gate,a b,clk,q,0110,6000,8000,2000,1000,10000\n",
             "JTL jtl (a) () (q) 0 2000 3000 0 0 0; SPL split (a) () (q0 q1) 0 3000 4000 0 0 0; MRG merge (a b) () (q) 0 4000 5000 0 0 5000; DFF gate (a) (clk) (q) 2 5000 7000 2000 1000 10000; NOT gate (a) (clk) (q) 1 6000 8000 2000 1000 10000; AND gate (a b) (clk) (q) 8 6000 8000 2000 1000 10000; XOR gate (a b) (clk) (q) 6 6000 8000 2000 1000 10000",
@@ -109,6 +109,10 @@ fn tables_are_read(rt: HostRuntime) -> Result<(), Fail> {
         (
             b"JTL,jtl,a,,q,,0002,1000000000,,,1000000000\n",
             "JTL jtl (a) () (q) 0 2 1000000000 0 0 1000000000",
+        ),
+        (
+            b"G,gate,a,c,q,01,0,0,1000000000,1000000000,1\n",
+            "G gate (a) (c) (q) 2 0 0 1000000000 1000000000 1",
         ),
         (b"", ""),
     ];
@@ -154,17 +158,27 @@ fn heads_are_checked(rt: HostRuntime) -> Result<(), Fail> {
 
 #[test]
 fn rows_are_refused(rt: HostRuntime) -> Result<(), Fail> {
-    let cases: [(&[u8], &str); 31] = [
+    let cases: [(&[u8], &str); 36] = [
         (b"JTL,jtl,a,,q,,3000,2000,,,0\n", "1 interval"),
         (b"\n\nJTL,jtl,a,,q,,2,3,,\n", "1 fields 10"),
         (b"JTL,jtl,a,,q,,2,3,,,0,\n", "1 fields 12"),
+        // An unclosed quote takes the rest of the file.
+        (
+            b"J,jtl,a,,\"q,,2,3,,,0\nK,jtl,a,,q,,2,3,,,0\n",
+            "1 fields 5",
+        ),
+        // The first of two faults: the name, and then the kind.
+        (b"wire,JTL,a,,q,,2,3,,,0\n", "1 name"),
         (b"J\xffL,jtl,a,,q,,2,3,,,0\n", "1 utf8"),
         (b"1L,jtl,a,,q,,2,3,,,0\n", "1 name"),
         (b"wire,jtl,a,,q,,2,3,,,0\n", "1 name"),
+        // A byte order mark is skipped at the beginning of the file alone.
+        (b"\xef\xbb\xbfJ,jtl,a,,q,,2,3,,,0\n", "1 name"),
         (b",jtl,a,,q,,2,3,,,0\n", "1 name"),
         (b"J,JTL,a,,q,,2,3,,,0\n", "1 kind"),
         (b"J,jtl,a b,,q,,2,3,,,0\n", "1 pins"),
         (b"J,jtl,a,clk,q,,2,3,,,0\n", "1 pins"),
+        (b"J,jtl, ,,q,,2,3,,,0\n", "1 pins"),
         (b"J,jtl,a,,task,,2,3,,,0\n", "1 pins"),
         (b"S,split,a,,q  r,,2,3,,,0\n", "1 pins"),
         (b"S,split,a,,q q,,2,3,,,0\n", "1 pins"),
@@ -179,6 +193,7 @@ fn rows_are_refused(rt: HostRuntime) -> Result<(), Fail> {
         (b"J,jtl,a,,q,,2,3,1,,0\n", "1 number 8"),
         (b"J,jtl,a,,q,,2,3,,,\n", "1 number 10"),
         (b"J,jtl,a,,q,,2,1000000001,,,0\n", "1 range 7"),
+        (b"J,jtl,a,,q,,2,99999999999999999999,,,0\n", "1 range 7"),
         (b"G,gate,a,c,q,01,2,3,1,0,1\n", "1 range 9"),
         (b"G,gate,a,c,q,01,2,3,1,1,0\n", "1 range 10"),
         (
@@ -203,6 +218,22 @@ fn rows_are_refused(rt: HostRuntime) -> Result<(), Fail> {
         let answer = answer_to(&rt, text.as_slice())?;
         let wanted = format!(in rt.alloc(); "refused cells {wanted}")?;
         assert_eq!(rt; answer.as_str(), wanted.as_str());
+    }
+    Ok(())
+}
+
+#[test]
+fn ends_of_lines_are_those_of_csv(rt: HostRuntime) -> Result<(), Fail> {
+    let cases: [&[u8]; 2] = [
+        b"cell,kind,inputs,clock,outputs,function,lo,hi,setup,hold,dead\r\nJ,jtl,a,,q,,2,3,,,0\r\nG,gate,a,c,q,01,2,3,1,1,1\r\n",
+        b"cell,kind,inputs,clock,outputs,function,lo,hi,setup,hold,dead\rJ,jtl,a,,q,,2,3,,,0\rG,gate,a,c,q,01,2,3,1,1,1\r",
+    ];
+    for text in cases {
+        let answer = answer_to(&rt, text)?;
+        assert_eq!(rt;
+            answer.as_str(),
+            "J jtl (a) () (q) 0 2 3 0 0 0; G gate (a) (c) (q) 2 2 3 1 1 1"
+        );
     }
     Ok(())
 }

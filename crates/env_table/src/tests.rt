@@ -125,10 +125,21 @@ fn heads_are_checked(rt: HostRuntime) -> Result<(), Fail> {
 
 #[test]
 fn rows_are_refused(rt: HostRuntime) -> Result<(), Fail> {
-    let cases: [(&[u8], &str); 25] = [
+    let cases: [(&[u8], &str); 31] = [
         (b"", "refused env 1 period"),
         (b"clock,clk,0,,\n", "refused env 2 period"),
+        (b"\xff\n", "refused env 1 utf8"),
         (b"\n\xff\n", "refused env 1 utf8"),
+        // An unclosed quote takes the rest of the file.
+        (
+            b"period,,5,,\nclock,\"c,7,,\ninput,a,1,2,\n",
+            "refused env 2 fields 2",
+        ),
+        // A byte order mark is skipped at the beginning of the file alone.
+        (b"\xef\xbb\xbfperiod,,5,,\n", "refused env 1 kind"),
+        // A space is a byte of its field.
+        (b"period, ,5,,\n", "refused env 1 pins"),
+        (b"clock,c, ,,\n", "refused env 1 number 2"),
         (b"period,,1,\n", "refused env 1 fields 4"),
         (b"period,,1,,,\n", "refused env 1 fields 6"),
         (b"Period,,1,,\n", "refused env 1 kind"),
@@ -143,6 +154,10 @@ fn rows_are_refused(rt: HostRuntime) -> Result<(), Fail> {
         (b"clock,clk,+1,,\n", "refused env 1 number 2"),
         (b"input,a,2,1,\n", "refused env 1 interval"),
         (b"input,a,1,1000000001,\n", "refused env 1 range 3"),
+        (
+            b"input,a,1,99999999999999999999,\n",
+            "refused env 1 range 3",
+        ),
         (b"input,a,1,2,3\n", "refused env 1 number 4"),
         (b"output,y,0,0,1\n", "refused env 1 range 3"),
         (b"output,y,0,1,0\n", "refused env 1 range 4"),
@@ -161,6 +176,20 @@ fn rows_are_refused(rt: HostRuntime) -> Result<(), Fail> {
         let text = with_head(&rt, rows)?;
         let answer = answer_to(&rt, text.as_slice())?;
         assert_eq!(rt; answer.as_str(), wanted);
+    }
+    Ok(())
+}
+
+#[test]
+fn ends_of_lines_are_those_of_csv(rt: HostRuntime) -> Result<(), Fail> {
+    let cases: [&[u8]; 3] = [
+        b"role,port,x,y,z\r\nperiod,,5,,\r\nclock,c,7,,\r\n",
+        b"role,port,x,y,z\rperiod,,5,,\rclock,c,7,,\r",
+        b"role,port,x,y,z\n\rperiod,,5,,\r\n\r\nclock,c,7,,",
+    ];
+    for text in cases {
+        let answer = answer_to(&rt, text)?;
+        assert_eq!(rt; answer.as_str(), "period 5; c clock 7");
     }
     Ok(())
 }
@@ -236,6 +265,8 @@ const MIXED: [(&str, bool); 3] = [("clk", false), ("p[0]", false), ("p[1]", true
 
 const CLOCKS: [(&str, bool); 4] = [("b", false), ("a", false), ("c[1]", false), ("c[0]", false)];
 
+const INPUTS: [(&str, bool); 2] = [("clk[0]", false), ("a", false)];
+
 const ODD: [(&str, bool); 8] = [
     ("a", false),
     ("a[0]", false),
@@ -249,7 +280,7 @@ const ODD: [(&str, bool); 8] = [
 
 #[test]
 fn lines_are_bound(rt: HostRuntime) -> Result<(), Fail> {
-    let cases: [(&[(&str, bool)], &[u8], &str); 5] = [
+    let cases: [(&[(&str, bool)], &[u8], &str); 6] = [
         (
             &ONE,
             b"period,,20000,,\nclock,clk,0,,\ninput,a,4000,6000,\noutput,y,0,1000,1000\n",
@@ -275,6 +306,12 @@ fn lines_are_bound(rt: HostRuntime) -> Result<(), Fail> {
             b"period,,9,,\nclock,clk,5,,\ninput,a,1,1,\ninput,a[0],2,2,\ninput,b[x],3,3,\ninput,b[],4,4,\ninput,c[1,5,5,\ninput,c1],6,6,\ninput,d[1],7,7,\n",
             "period 9 clock 7; input 1 1; input 2 2; input 3 3; input 4 4; input 5 5; input 6 6; input 7 7; clock 5",
         ),
+        // A circuit with no outputs, and a clock that names a vector of one bit.
+        (
+            &INPUTS,
+            b"period,,9,,\nclock,clk,5,,\ninput,a,1,2,\n",
+            "period 9 clock 0; clock 5; input 1 2",
+        ),
     ];
     for (ports, rows, wanted) in cases {
         let answer = bound(&rt, ports, rows)?;
@@ -285,7 +322,7 @@ fn lines_are_bound(rt: HostRuntime) -> Result<(), Fail> {
 
 #[test]
 fn benches_are_refused(rt: HostRuntime) -> Result<(), Fail> {
-    let cases: [(&[(&str, bool)], &[u8], &str); 23] = [
+    let cases: [(&[(&str, bool)], &[u8], &str); 25] = [
         (
             &ONE,
             b"period,,20000,,\nclock,clk,0,,\ninput,a,4000,6000,\n",
@@ -355,6 +392,13 @@ fn benches_are_refused(rt: HostRuntime) -> Result<(), Fail> {
             b"period,,9,,\nclock,clk,0,,\ninput,a,1,2,\noutput,y[0],8,1,1\noutput,y[1],10,1,1\n",
             "strobe y[1]",
         ),
+        // A circuit with no outputs, and one with no ports at all.
+        (
+            &INPUTS,
+            b"period,,9,,\nclock,clk,5,,\ninput,a,1,2,\noutput,y,0,1,1\n",
+            "unknown y",
+        ),
+        (&[], b"period,,9,,\n", "no clock"),
         // The first line that does not fit; what is looked for later comes later.
         (
             &ONE,
