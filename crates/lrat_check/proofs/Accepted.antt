@@ -73,9 +73,11 @@ lits_listed at (lit ∷ lits) after small =
     ≡ record { start = at; bytes = literal_text lit } ∷ words is_space (at + suc (length (literal_text lit))) (flat_map spaced_literal lits ++ 48 ∷ 32 ∷ after) =
     ap (words is_space at) (regroup (literal_text lit) (flat_map spaced_literal lits) (48 ∷ 32 ∷ after))
     ∙ word_first is_space at (literal_text lit) 32 (flat_map spaced_literal lits ++ 48 ∷ 32 ∷ after) (literal_some lit (omega arith)) (literal_free is_space spaces lit (omega arith)) refl in
-    let field : field_of (literal_text lit) ≡ Number (signed_literal lit) = field_is (literal_text lit) (signed_literal lit) (signed_read lit here) (λ e. omega arith) in
-    (behind.0, ap list_of split ∙ one_more (literal_text lit) at (signed_literal lit) (words is_space (at + suc (length (literal_text lit))) (flat_map spaced_literal lits ++ 48 ∷ 32 ∷ after))
-    (map signed_literal lits) (words is_space behind.0 after) field behind.1)
+    let field : field_of (literal_text lit) ≡ Number (signed_literal lit) = field_is (literal_text lit) (signed_literal lit) (signed_read lit here) (λ e. omega arith) in (
+      behind.0,
+      ap list_of split ∙ one_more (literal_text lit) at (signed_literal lit) (words is_space (at + suc (length (literal_text lit))) (flat_map spaced_literal lits ++ 48 ∷ 32 ∷ after))
+          (map signed_literal lits) (words is_space behind.0 after) field behind.1,
+    )
 
 hints_listed : (at : ℕ) (hints : List ℕ) → All (λ hint. hint + 1 ≤ 4294967295) hints
     → list_of (words is_space at (flat_map spaced_hint hints ++ 48 ∷ [])) ≡ listed (map signed_hint hints) []
@@ -251,9 +253,11 @@ more_found clauses lits =
     front_of : (xs ys : List Clause) → take (length xs) (xs ++ ys) ≡ xs
     front_of [] ys = refl
     front_of (x ∷ xs) ys = ap (λ (l : List Clause). x ∷ l) (front_of xs ys)
+
     there : (xs : List Clause) (x : Clause) → get_or (xs ++ x ∷ []) (length xs) x ≡ x
     there [] x = refl
     there (y ∷ xs) x = there xs x
+
     all_of : (xs : List Clause) (n : ℕ) → length xs ≤ n → take n xs ≡ xs
     all_of [] zero le = refl
     all_of [] (suc n) le = refl
