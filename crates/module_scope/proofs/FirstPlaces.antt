@@ -26,7 +26,7 @@ one_name by all at site o name there is gives =
       some_same h = cc
 
 -- below one more: below, or there
-below : (at limit : ℕ) → at < limit + 1 → (at < limit) ⊎ (at ≡ limit)
+pub below : (at limit : ℕ) → at < limit + 1 → (at < limit) ⊎ (at ≡ limit)
 below at limit h = omega-cases where
   omega-cases : (at < limit) ⊎ (at ≡ limit)
   omega-cases = grind arith

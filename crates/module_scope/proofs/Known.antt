@@ -1,6 +1,8 @@
 -- Names that are known, and sites that want one.
 use Rattle.std.proofs.Common.{◌≡◌, inl, inr, ℕ, ◌<◌, List, length, map, get_or, Option, Some, None, sym, ◌∙◌, ap, subst, IfSome, IfNone, Bor}
+use Rattle.std.specs.Option.{option_map}
 use Rattle.std.proofs.lemmas.List.{length-map}
+use Rattle.std.proofs.lemmas.Option.{slice_get-map, slice_get-get_or}
 use Rattle.verilog_sites.specs.declared.site.Site.{Site as CodeSite}
 use Rattle.verilog_sites.specs.View.{view_site}
 use Rattle.module_scope.proofs.FirstPlaces.{site_at}
@@ -37,7 +39,7 @@ unknown all at (Instance kind n links) name there is lacks = absurd cc
 unknown all at (Named kind n expr) name there is lacks = absurd cc
 unknown all at (Ordered kind n expr) name there is lacks = absurd cc
 
-one_site : (all : List Site) (at : ℕ) (a b : Site) → IsAt all at a → IsAt all at b → a ≡ b
+pub one_site : (all : List Site) (at : ℕ) (a b : Site) → IsAt all at a → IsAt all at b → a ≡ b
 one_site all at a b h k = some_same (sym h ∙ k) where
   some_same : Some a ≡ Some b → a ≡ b
   some_same e = cc
@@ -50,6 +52,13 @@ wants all at site name there (InLink s stands lacks) = (ap wanted_name (one_site
 -- the site that the code reads
 pub site_there : (sites : List CodeSite) (at : ℕ) (site : CodeSite) → at < length (map view_site sites) → site ≡ get_or sites at site → IsAt (map view_site sites) at (view_site site)
 site_there sites at site lt is = site_at sites at site (rw (length-map sites view_site) at lt) is
+
+-- and the one that it matches on
+pub site_read : (sites : List CodeSite) (at : ℕ) (default site : CodeSite) → at < length sites → get_or sites at default ≡ site → IsAt (map view_site sites) at (view_site site)
+site_read sites at default site lt is = slice_get-map view_site sites at ∙ ap (option_map view_site) (slice_get-get_or sites at default lt ∙ ap Some is)
+
+pub within : (sites : List CodeSite) (at : ℕ) → at < length (map view_site sites) → at < length sites
+within sites at lt = rw (length-map sites view_site) at lt
 
 -- ---- the answers of a test
 

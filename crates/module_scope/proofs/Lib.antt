@@ -4,3 +4,5 @@ pub mod NameRanges
 pub mod Known
 pub mod OneRange
 pub mod Wide
+pub mod PortLinks
+pub mod RangeFaults

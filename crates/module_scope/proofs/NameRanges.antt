@@ -54,22 +54,30 @@ linked_is (Assigned o) name e = absurd cc
 
 -- ---- what a name is
 
-pub port_stands : (all : List Site) (name : List ℕ) (at : ℕ) (range : Option (ℕ × ℕ)) → Gives sort.Direction all at name → Declares all at range → (output : Bool) × IsPort all name output range
-port_stands all name at range gives declares =
+pub port_there : (all : List Site) (name : List ℕ) (at : ℕ) (range : Option (ℕ × ℕ)) → Gives sort.Direction all at name → Declares all at range → (output : Bool) × IsAt all at (Port name output range)
+port_there all name at range gives declares =
     let is = direction_is gives.0 name gives.2 in
     let same : gives.0 ≡ Port name is.0 range = is.1 ∙ ap (λ (r : Option (ℕ × ℕ)). Port name is.0 r) (sym (declares gives.0 gives.1)) in
-    (is.0, (at, subst (λ (s : Site). IsAt all at s) same gives.1))
+    (is.0, subst (λ (s : Site). IsAt all at s) same gives.1)
+
+pub port_stands : (all : List Site) (name : List ℕ) (at : ℕ) (range : Option (ℕ × ℕ)) → Gives sort.Direction all at name → Declares all at range → (output : Bool) × IsPort all name output range
+port_stands all name at range gives declares =
+    let there = port_there all name at range gives declares in
+    (there.0, (at, there.1))
 
 pub port_range : (all : List Site) (name : List ℕ) (at : ℕ) (range : Option (ℕ × ℕ)) → Gives sort.Direction all at name → Declares all at range → HasRange all name range
 port_range all name at range gives declares =
     let stands = port_stands all name at range gives declares in
     AsPort stands.0 stands.1
 
-pub wire_stands : (all : List Site) (name : List ℕ) (at : ℕ) (range : Option (ℕ × ℕ)) → Gives sort.Wire all at name → Declares all at range → Stands all (Wire name range)
-wire_stands all name at range gives declares =
+pub wire_there : (all : List Site) (name : List ℕ) (at : ℕ) (range : Option (ℕ × ℕ)) → Gives sort.Wire all at name → Declares all at range → IsAt all at (Wire name range)
+wire_there all name at range gives declares =
     let is = wire_is gives.0 name gives.2 in
     let same : gives.0 ≡ Wire name range = is ∙ ap (λ (r : Option (ℕ × ℕ)). Wire name r) (sym (declares gives.0 gives.1)) in
-    (at, subst (λ (s : Site). IsAt all at s) same gives.1)
+    subst (λ (s : Site). IsAt all at s) same gives.1
+
+pub wire_stands : (all : List Site) (name : List ℕ) (at : ℕ) (range : Option (ℕ × ℕ)) → Gives sort.Wire all at name → Declares all at range → Stands all (Wire name range)
+wire_stands all name at range gives declares = (at, wire_there all name at range gives declares)
 
 pub link_stands : (all : List Site) (name : List ℕ) (at : ℕ) → Gives sort.Linked all at name → IsLinked all name
 link_stands all name at gives = (at, subst (λ (s : Site). IsAt all at s) (linked_is gives.0 name gives.2) gives.1)

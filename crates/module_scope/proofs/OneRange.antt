@@ -12,7 +12,7 @@ order : (a b : ℕ) → (a < b) ⊎ ((b < a) ⊎ (a ≡ b))
 order a b = grind arith
 
 -- a name is given at one place
-one_place : (all : List Site) (by : Sort) (name : List ℕ) (a b : ℕ) → is_own by ≡ true → HasNoDouble all (length all) → Gives by all a name → Gives by all b name → a ≡ b
+pub one_place : (all : List Site) (by : Sort) (name : List ℕ) (a b : ℕ) → is_own by ≡ true → HasNoDouble all (length all) → Gives by all a name → Gives by all b name → a ≡ b
 one_place all by name a b own single g h = elim (order a b) [
   | inl lt ↦ absurd (single b name (slice_get_within all b h.0 h.1) (by, own, (h, (a, lt, g))))
   | inr rest ↦ elim rest [

@@ -9,6 +9,7 @@ use Rattle.verilog_sites.specs.Index.{IsNotGiven}
 use Rattle.verilog_sites.specs.Refused.{IsTooWide}
 use Rattle.module_scope.specs.Checked.{IsWidePort}
 use Rattle.module_scope.specs.Scoped.{Declares, HasNoDouble}
+use Rattle.module_scope.proofs.Known.{one_site}
 use Rattle.module_scope.proofs.NameRanges.{port_stands, no_direction}
 use Rattle.module_scope.proofs.OneRange.{one_port}
 
@@ -23,11 +24,6 @@ listed_is (Named kind n expr) name e = absurd cc
 listed_is (Ordered kind n expr) name e = absurd cc
 listed_is (Assigned o) name e = absurd cc
 listed_is (Linked o) name e = absurd cc
-
-one_site : (all : List Site) (at : ℕ) (a b : Site) → IsAt all at a → IsAt all at b → a ≡ b
-one_site all at a b h k = some_same (sym h ∙ k) where
-  some_same : Some a ≡ Some b → a ≡ b
-  some_same e = cc
 
 too_wide : (all : List Site) (at : ℕ) (site : Site) (name : List ℕ) (width : ℕ) → IsAt all at site → listed_name site ≡ Some name → IsWidePort all name width → IsTooWide all at width
 too_wide all at site name width there is wide = record {

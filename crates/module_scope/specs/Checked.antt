@@ -1,18 +1,12 @@
 -- What the tests of a module's names look at.
 use Rattle.std.specs.Prelude.{◌≡◌, Bool, ◌≢◌, ℕ, ◌<◌, List, Option, Some, None}
-use Rattle.verilog_sites.specs.declared.sort.Sort.{Sort}
-use Rattle.verilog_sites.specs.Sites.{Site, Assigned, Linked}
+use Rattle.verilog_sites.specs.Sites.{Operand, Site, Port, Wire, Assigned, Linked}
 use Rattle.verilog_sites.specs.Selects.{width_of}
-use Rattle.verilog_sites.specs.Scope.{IsPort, HasRange}
-use Rattle.verilog_sites.specs.Again.{Gives}
+use Rattle.verilog_sites.specs.Scope.{StandsBefore, IsPort, HasRange}
 use Rattle.verilog_sites.specs.Refused.{IsOutside}
 use Rattle.module_scope.specs.Scoped.{Declares}
 
--- a name with the bits that are selected of it, where some are
-abbrev pub select_of : List ℕ → Option (ℕ × ℕ) → Option (List ℕ × (ℕ × ℕ))
-select_of name None = None
-select_of name (Some select) = Some (name, select)
-
+-- a name, where bits are selected of it
 abbrev pub selected_name : List ℕ → Option (ℕ × ℕ) → Option (List ℕ)
 selected_name name None = None
 selected_name name (Some select) = Some name
@@ -23,19 +17,21 @@ wanted_name (Assigned operand) = Some operand.name
 wanted_name (Linked operand) = selected_name operand.name operand.select
 wanted_name _ = None
 
--- the select at a site
-abbrev pub select_at : Site → Option (List ℕ × (ℕ × ℕ))
-select_at (Assigned operand) = select_of operand.name operand.select
-select_at (Linked operand) = select_of operand.name operand.select
-select_at _ = None
+-- the name of an operand of which bits are selected that it lacks
+abbrev pub IsRefused : List Site → Operand → List ℕ → Type 0
+IsRefused all operand name = (select : ℕ × ℕ) × (range : Option (ℕ × ℕ)) × (operand ≡ record { name = name; select = Some select }) × HasRange all name range × IsOutside range select
 
--- a select of a name that has a range, and lies outside it
-abbrev pub IsRefusedSelect : List Site → List ℕ → ℕ × ℕ → Type 0
-IsRefusedSelect all name select = (range : Option (ℕ × ℕ)) × HasRange all name range × IsOutside range select
+-- a place stands before another and declares another range
+abbrev pub IsOtherAt : List Site → ℕ → ℕ → Option (ℕ × ℕ) → Type 0
+IsOtherAt all earlier at range = (earlier < at) × ((other : Option (ℕ × ℕ)) × Declares all earlier other × (range ≢ other))
 
--- an earlier site of a sort declares another range for a name
-abbrev pub IsOtherBefore : Sort → List Site → ℕ → List ℕ → Option (ℕ × ℕ) → Type 0
-IsOtherBefore by all at name range = (earlier : ℕ) × (other : Option (ℕ × ℕ)) × (earlier < at) × Gives by all earlier name × Declares all earlier other × (range ≢ other)
+-- a direction that stands before a place gives a name another range
+abbrev pub IsOtherPort : List Site → ℕ → List ℕ → Option (ℕ × ℕ) → Type 0
+IsOtherPort all at name range = (output : Bool) × (other : Option (ℕ × ℕ)) × StandsBefore all at (Port name output other) × (range ≢ other)
+
+-- a declaration as a wire that stands before a place gives a name another range
+abbrev pub IsOtherWire : List Site → ℕ → List ℕ → Option (ℕ × ℕ) → Type 0
+IsOtherWire all at name range = (other : Option (ℕ × ℕ)) × StandsBefore all at (Wire name other) × (range ≢ other)
 
 -- a port that is wider than 4,096 bits, by its name
 abbrev pub IsWidePort : List Site → List ℕ → ℕ → Type 0

@@ -1,3 +1,4 @@
 pub mod Indexed
 pub mod Scoped
 pub mod Checked
+pub mod Linked

@@ -2,11 +2,11 @@
 
 ghost use Rattle.std.specs.Prelude.{◌≡◌, ◌<◌, ◌↔◌, ℕ, List, length, Some, IfSome, IfNone, IsTrue};
 ghost use Rattle.std.specs.Option.{option_map};
-ghost use Rattle.verilog_sites.specs.Scope.{IsKnown, HasRange};
-ghost use Rattle.verilog_sites.specs.Refused.{IsUnknownName, IsOutside, IsOutOfRange, IsTooWide};
+ghost use Rattle.verilog_sites.specs.Scope.{IsKnown};
+ghost use Rattle.verilog_sites.specs.Refused.{IsUnknownName, IsTooWide};
 ghost use Rattle.verilog_sites.specs.View.{view_site};
 ghost use Rattle.module_scope.specs.Scoped.{IsScope, HasNoDouble, sites_of};
-ghost use Rattle.module_scope.specs.Checked.{wanted_name, select_at, selected_name, select_of, IsRefusedSelect, IsWidePort};
+ghost use Rattle.module_scope.specs.Checked.{wanted_name, selected_name, IsWidePort};
 
 use crate::ranges::width_of;
 use crate::scope::Scope;

@@ -3,6 +3,8 @@
 
 mod checks;
 mod index;
+mod links;
+mod outside;
 mod ranges;
 mod scope;
 

@@ -12,8 +12,9 @@ pub record IsPortTwice (all : List Site) (at : ℕ) (name : List ℕ) : Type 0 w
   pub there : IsAt all at (Named kind name expr)
   pub earlier : ℕ
   pub before : earlier < at
+  pub earlier_kind : List ℕ
   pub earlier_expr : Option Expr
-  pub there_too : IsAt all earlier (Named kind name earlier_expr)
+  pub there_too : IsAt all earlier (Named earlier_kind name earlier_expr)
   pub together : (between : ℕ) (inner_kind inner_name : List ℕ) (links : Links) → earlier < between → between < at → ¬ IsAt all between (Instance inner_kind inner_name links)
 
 -- An operand of an assign, or a select in a link, of a name that is neither declared nor made by a link.
