@@ -1,7 +1,9 @@
 //! Proofs of small formulas.
-use crate::{LratWhy, check_text, lrat_run};
+use crate::{LratWhy, check_text, ended_log_is_accepted, lrat_run, write_lrat};
 use bumpalo::Bump;
 use dimacs_text::read_dimacs;
+use proof_arena::{Marks, ProofLog, step_holds};
+use rsfq_ids::id::{ClauseId, Id, Lit};
 use rsfq_outside::{MemoryFolder, MemorySink, Status};
 use std::alloc::{AllocError, Global};
 use std::test::Fail;
@@ -254,5 +256,47 @@ fn faults_of_the_outside(rt: HostRuntime) -> Result<(), Fail> {
         );
         assert_eq!(rt; out.bytes(), text);
     }
+    Ok(())
+}
+
+// The log of the formula of the wire, behind bytes that were there.
+#[test]
+fn a_written_log_is_verified(rt: HostRuntime) -> Result<(), Fail> {
+    let alloc = rt.alloc();
+    let Ok(cnf) = read_dimacs(alloc, WIRE) else {
+        panic!(rt; "refused formula");
+    };
+    let arena = Bump::new(alloc);
+    let mut log = ProofLog::new(alloc, &cnf, &arena);
+    let mut marks = Marks::new(alloc, log.vars())?;
+    let mut text = b"c\n".to_vec(alloc)?;
+    write_lrat(&cnf, &log, &mut text)?;
+    assert_eq!(rt; text.as_slice(), b"c\n".as_slice());
+
+    let positive = [Lit::of(0)];
+    let hints = [ClauseId::of(0), ClauseId::of(7), ClauseId::of(3)];
+    assert_eq!(rt; log.clauses(), 8);
+    assert!(rt; step_holds(&log, &positive, &hints, &mut marks));
+    log.add(&positive, &hints)?;
+
+    let negative = [Lit::of(1)];
+    let hints = [ClauseId::of(1), ClauseId::of(7), ClauseId::of(4)];
+    assert_eq!(rt; log.clauses(), 9);
+    assert!(rt; step_holds(&log, &negative, &hints, &mut marks));
+    log.add(&negative, &hints)?;
+
+    let hints = [ClauseId::of(8), ClauseId::of(9)];
+    assert_eq!(rt; log.clauses(), 10);
+    assert!(rt; step_holds(&log, &[], &hints, &mut marks));
+    log.add(&[], &hints)?;
+
+    write_lrat(&cnf, &log, &mut text)?;
+    assert_eq!(rt;
+        text.as_slice(),
+        b"c\n9 1 0 1 8 4 0\n10 -1 0 2 8 5 0\n11 0 9 10 0\n".as_slice()
+    );
+    ended_log_is_accepted(&cnf, &log);
+    assert!(rt; text.len() < 1000);
+    assert!(rt; check_text(alloc, &cnf, &text, &arena).is_ok());
     Ok(())
 }
