@@ -6,12 +6,12 @@ use Rattle.std.proofs.lemmas.Option.{same_Some, slice_get-get_or, slice_get-map}
 use Rattle.std.proofs.lemmas.Bool.{false≢true}
 use Rattle.std.proofs.lemmas.List.Sums.{sum_by-cons}
 use Rattle.std.proofs.lemmas.List.{length-map, length-replicate}
-use Rattle.verilog_bind.specs.declared.bound.BoundKind.{BoundKind}
-use Rattle.verilog_bind.specs.declared.bound.BoundKind.TheVariants.{Module, Cell}
-use Rattle.verilog_bind.specs.declared.bound.BoundInstance.{BoundInstance}
-use Rattle.verilog_bind.specs.declared.bound.BoundWire.{BoundWire}
-use Rattle.verilog_bind.specs.declared.bound.BoundModule.{BoundModule}
-use Rattle.verilog_bind.specs.declared.bound.Bound.{Bound}
+use Rattle.bound_source.specs.declared.bound.BoundKind.{BoundKind}
+use Rattle.bound_source.specs.declared.bound.BoundKind.TheVariants.{Module, Cell}
+use Rattle.bound_source.specs.declared.bound.BoundInstance.{BoundInstance}
+use Rattle.bound_source.specs.declared.bound.BoundWire.{BoundWire}
+use Rattle.bound_source.specs.declared.bound.BoundModule.{BoundModule}
+use Rattle.bound_source.specs.declared.bound.Bound.{Bound}
 use Rattle.design_size.specs.declared.size.Size.{Size}
 use Rattle.design_size.specs.Hierarchy.{instances_of, wires_of, module_of, leads_to, IsDeeper, cells_by, bits_by, bits_of, cell_count, bit_count, HasModules}
 use Rattle.design_size.specs.Rounds.{empty_size, joined, kind_size, module_size, AreBelow}

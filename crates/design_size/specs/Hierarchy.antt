@@ -1,12 +1,12 @@
 -- The hierarchy of a bound source: which modules stand in which, how deep they lie, and how many cells and wire bits are inside.
 use Rattle.std.specs.Prelude.{◌≡◌, ℕ, zero, suc, ◌+◌, ◌<◌, List, [], ◌∷◌, length, sum_by, slice_get, Option, Some, None, unwrap_or, IsSome}
 use Rattle.std.specs.Option.{option_map, option_and_then}
-use Rattle.verilog_bind.specs.declared.bound.BoundKind.{BoundKind}
-use Rattle.verilog_bind.specs.declared.bound.BoundKind.TheVariants.{Module, Cell}
-use Rattle.verilog_bind.specs.declared.bound.BoundInstance.{BoundInstance}
-use Rattle.verilog_bind.specs.declared.bound.BoundWire.{BoundWire}
-use Rattle.verilog_bind.specs.declared.bound.Bound.{Bound}
-use Rattle.verilog_bind.specs.Bits.{width_of}
+use Rattle.bound_source.specs.declared.bound.BoundKind.{BoundKind}
+use Rattle.bound_source.specs.declared.bound.BoundKind.TheVariants.{Module, Cell}
+use Rattle.bound_source.specs.declared.bound.BoundInstance.{BoundInstance}
+use Rattle.bound_source.specs.declared.bound.BoundWire.{BoundWire}
+use Rattle.bound_source.specs.declared.bound.Bound.{Bound}
+use Rattle.bound_source.specs.Bits.{width_of}
 
 -- the instances in a module
 abbrev pub instances_of : Bound → ℕ → List BoundInstance

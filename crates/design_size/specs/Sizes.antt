@@ -1,6 +1,6 @@
 -- The size of a module as it is kept: counts that stop behind their limits.
 use Rattle.std.specs.Prelude.{◌≡◌, ℕ, ◌<◌, ◌≤◌, ◌↔◌, IsTrue, min, List, length, slice_get, Some}
-use Rattle.verilog_bind.specs.declared.bound.Bound.{Bound}
+use Rattle.bound_source.specs.declared.bound.Bound.{Bound}
 use Rattle.design_size.specs.declared.size.Size.{Size}
 use Rattle.design_size.specs.declared.limits.LimitFault.{LimitFault}
 use Rattle.design_size.specs.declared.limits.LimitFault.TheVariants.{Nesting, Cells, Wires, Memory}

@@ -8,7 +8,7 @@ mod limits;
 mod size;
 
 pub use limits::{LimitFault, measure};
-pub use size::Size;
+pub use size::{Size, width};
 
 #[cfg(test)]
 mod tests;

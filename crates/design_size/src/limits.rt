@@ -6,10 +6,10 @@ ghost use Rattle.design_size.specs.Sizes.{AreSizes, IsWithinLimits, PassesLimit}
 ghost use Rattle.design_size.specs.declared.limits.LimitFault.TheVariants.{Memory};
 
 use crate::size::{Size, sizes_of};
+use bound_source::Bound;
 use rsfq_ids::list::NoMemory;
 use std::alloc::Global;
 use thiserror::Error;
-use verilog_bind::Bound;
 
 /// Which limit a circuit passes, and the first number that passes it. They are looked at in this order.
 #[derive(Clone, Copy, Debug, PartialEq, Eq, Error)]

@@ -1,15 +1,15 @@
 //! The size of a module, from those of the modules inside it.
 
 ghost use Rattle.std.specs.Prelude.{◌≡◌, ◌<◌, ◌^◌, ℕ, true, min, map, replicate, length, slice_get, Some, IfOk};
-ghost use Rattle.verilog_bind.specs.Bits.{width_of};
+ghost use Rattle.bound_source.specs.Bits.{width_of};
 ghost use Rattle.design_size.specs.Hierarchy.{bits_of, module_of, HasModules};
 ghost use Rattle.design_size.specs.Rounds.{joined, kind_size, module_size, AreBelow};
-ghost use Rattle.verilog_bind.specs.declared.bound.BoundModule.{BoundModule};
+ghost use Rattle.bound_source.specs.declared.bound.BoundModule.{BoundModule};
 ghost use Rattle.design_size.specs.Sizes.{AreSizes};
 
+use bound_source::{Bound, BoundKind, BoundModule, BoundWire};
 use rsfq_ids::list::NoMemory;
 use std::alloc::Global;
-use verilog_bind::{Bound, BoundKind, BoundModule, BoundWire};
 
 /// One more cell than a circuit may have.
 const MOST_CELLS: u64 = 100_001;
@@ -43,7 +43,7 @@ fn join(one: Size, other: Size) -> Size
 }
 
 /// How many bits a wire has.
-fn width(wire: &BoundWire) -> u64
+pub fn width(wire: &BoundWire) -> u64
     ensures value { result ≡ width_of wire.now.range }
     ensures small { result < 2 ^ 33 }
 {

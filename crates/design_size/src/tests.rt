@@ -2,15 +2,15 @@
 ghost use Rattle.std.specs.Prelude.{IsTrue, ◌≡◌, ◌<◌, ℕ, length, slice_get, Some};
 ghost use Rattle.design_size.specs.Hierarchy.{HasModules, module_of};
 ghost use Rattle.design_size.specs.Rounds.{AreBelow};
-ghost use Rattle.verilog_bind.specs.declared.bound.BoundModule.{BoundModule};
+ghost use Rattle.bound_source.specs.declared.bound.BoundModule.{BoundModule};
 
 use super::{LimitFault, measure};
+use bound_source::{Bound, BoundInstance, BoundKind, BoundModule, BoundWire};
 use rsfq_ids::list::{List, NoMemory};
 use rsfq_ids::name::Name;
 use std::alloc::Global;
 use std::process::Abort;
 use std::test::Fail;
-use verilog_bind::{Bound, BoundInstance, BoundKind, BoundModule, BoundWire};
 
 fn is_below(kind: BoundKind, count: usize) -> bool
     ensures { IsTrue result → (inner : ℕ) → module_of kind ≡ Some inner → inner < count }

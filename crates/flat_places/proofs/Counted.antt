@@ -5,12 +5,12 @@ use Rattle.std.proofs.lemmas.List.{length-map}
 use Rattle.std.proofs.lemmas.List.Concat.{length-flat_map}
 use Rattle.std.proofs.lemmas.List.FromFn.{length-map-range_with_len}
 use Rattle.std.proofs.lemmas.List.Sums.{sum_by-cons}
-use Rattle.verilog_bind.specs.declared.bound.BoundKind.{BoundKind}
-use Rattle.verilog_bind.specs.declared.bound.BoundKind.TheVariants.{Module, Cell}
-use Rattle.verilog_bind.specs.declared.bound.BoundInstance.{BoundInstance}
-use Rattle.verilog_bind.specs.declared.bound.BoundWire.{BoundWire}
-use Rattle.verilog_bind.specs.declared.bound.Bound.{Bound}
-use Rattle.verilog_bind.specs.Bits.{width_of}
+use Rattle.bound_source.specs.declared.bound.BoundKind.{BoundKind}
+use Rattle.bound_source.specs.declared.bound.BoundKind.TheVariants.{Module, Cell}
+use Rattle.bound_source.specs.declared.bound.BoundInstance.{BoundInstance}
+use Rattle.bound_source.specs.declared.bound.BoundWire.{BoundWire}
+use Rattle.bound_source.specs.declared.bound.Bound.{Bound}
+use Rattle.bound_source.specs.Bits.{width_of}
 use Rattle.design_size.specs.Hierarchy.{instances_of, wires_of, bits_of, bits_by, cell_count, bit_count}
 use Rattle.design_size.specs.Hierarchy as size
 use Rattle.flat_places.specs.Places.{Place, CellAt, own_places, places_by, cells_by, places_in, cells_in}

@@ -4,14 +4,14 @@ use Rattle.std.specs.Prelude.{slice_get, unwrap_or, option_to_list, IsSome}
 use Rattle.std.specs.Option.{option_map, option_and_then}
 use Rattle.std.specs.List.{flat_map, enumerate_from, zip}
 use Rattle.std.proofs.lemmas.Option.{same_Some}
-use Rattle.verilog_bind.specs.declared.bound.BoundKind.{BoundKind}
-use Rattle.verilog_bind.specs.declared.bound.BoundKind.TheVariants.{Module, Cell}
-use Rattle.verilog_bind.specs.declared.bound.BoundAssign.{BoundAssign}
-use Rattle.verilog_bind.specs.declared.bound.BoundLink.{BoundLink}
-use Rattle.verilog_bind.specs.declared.bound.BoundPort.{BoundPort}
-use Rattle.verilog_bind.specs.declared.bound.BoundInstance.{BoundInstance}
-use Rattle.verilog_bind.specs.declared.bound.BoundModule.{BoundModule}
-use Rattle.verilog_bind.specs.declared.bound.Bound.{Bound}
+use Rattle.bound_source.specs.declared.bound.BoundKind.{BoundKind}
+use Rattle.bound_source.specs.declared.bound.BoundKind.TheVariants.{Module, Cell}
+use Rattle.bound_source.specs.declared.bound.BoundAssign.{BoundAssign}
+use Rattle.bound_source.specs.declared.bound.BoundLink.{BoundLink}
+use Rattle.bound_source.specs.declared.bound.BoundPort.{BoundPort}
+use Rattle.bound_source.specs.declared.bound.BoundInstance.{BoundInstance}
+use Rattle.bound_source.specs.declared.bound.BoundModule.{BoundModule}
+use Rattle.bound_source.specs.declared.bound.Bound.{Bound}
 use Rattle.design_size.specs.Hierarchy.{instances_of, module_of, leads_to, IsDeeper}
 use Rattle.flat_places.specs.Places.{Place, deeper_place, part_bits}
 use Rattle.flat_places.specs.Drives.{Assigns, LinksModule, Follows, assign, into, out}

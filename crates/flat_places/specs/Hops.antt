@@ -2,13 +2,13 @@
 use Rattle.std.specs.Prelude.{ℕ, zero, suc, Bool, true, false, List, [], ◌∷◌, ◌++◌, map, slice_get, unwrap_or, option_to_list}
 use Rattle.std.specs.Option.{option_map}
 use Rattle.std.specs.List.{flat_map, enumerate_from, zip}
-use Rattle.verilog_bind.specs.declared.bound.BoundKind.{BoundKind}
-use Rattle.verilog_bind.specs.declared.bound.BoundKind.TheVariants.{Module, Cell}
-use Rattle.verilog_bind.specs.declared.bound.BoundAssign.{BoundAssign}
-use Rattle.verilog_bind.specs.declared.bound.BoundLink.{BoundLink}
-use Rattle.verilog_bind.specs.declared.bound.BoundPort.{BoundPort}
-use Rattle.verilog_bind.specs.declared.bound.BoundInstance.{BoundInstance}
-use Rattle.verilog_bind.specs.declared.bound.Bound.{Bound}
+use Rattle.bound_source.specs.declared.bound.BoundKind.{BoundKind}
+use Rattle.bound_source.specs.declared.bound.BoundKind.TheVariants.{Module, Cell}
+use Rattle.bound_source.specs.declared.bound.BoundAssign.{BoundAssign}
+use Rattle.bound_source.specs.declared.bound.BoundLink.{BoundLink}
+use Rattle.bound_source.specs.declared.bound.BoundPort.{BoundPort}
+use Rattle.bound_source.specs.declared.bound.BoundInstance.{BoundInstance}
+use Rattle.bound_source.specs.declared.bound.Bound.{Bound}
 use Rattle.design_size.specs.Hierarchy.{instances_of}
 use Rattle.flat_places.specs.Places.{Place, deeper_place, part_bits}
 

@@ -1,13 +1,13 @@
 -- A bound source written out: the wire bits and the cells of all modules that the top comes to, instance by instance, depth first in text order.
 use Rattle.std.specs.Prelude.{ℕ, zero, suc, ◌+◌, List, [], ◌∷◌, ◌++◌, map}
 use Rattle.std.specs.List.{flat_map, enumerate_from, range_with_len}
-use Rattle.verilog_bind.specs.declared.bound.BoundKind.{BoundKind}
-use Rattle.verilog_bind.specs.declared.bound.BoundKind.TheVariants.{Module, Cell}
-use Rattle.verilog_bind.specs.declared.bound.BoundWire.{BoundWire}
-use Rattle.verilog_bind.specs.declared.bound.BoundPort.{BoundPort}
-use Rattle.verilog_bind.specs.declared.bound.BoundPart.{BoundPart}
-use Rattle.verilog_bind.specs.declared.bound.Bound.{Bound}
-use Rattle.verilog_bind.specs.Bits.{width_of}
+use Rattle.bound_source.specs.declared.bound.BoundKind.{BoundKind}
+use Rattle.bound_source.specs.declared.bound.BoundKind.TheVariants.{Module, Cell}
+use Rattle.bound_source.specs.declared.bound.BoundWire.{BoundWire}
+use Rattle.bound_source.specs.declared.bound.BoundPort.{BoundPort}
+use Rattle.bound_source.specs.declared.bound.BoundPart.{BoundPart}
+use Rattle.bound_source.specs.declared.bound.Bound.{Bound}
+use Rattle.bound_source.specs.Bits.{width_of}
 use Rattle.design_size.specs.Hierarchy.{instances_of, wires_of}
 
 -- A place: one bit of a wire in the module that a path of instances leads to. Bits count from the right end of the wire's range.

@@ -7,7 +7,7 @@ ghost use Rattle.flat_places.specs.Hops.{Hop, hops_in};
 ghost use Rattle.flat_places.specs.Places.{Place, places_in, cells_in};
 ghost use Rattle.flat_places.specs.Numbers.{number_in};
 
-use verilog_bind::Bound;
+use bound_source::Bound;
 
 /// There are as many places and cells inside a module as are counted.
 pub fn places_are_counted(bound: &Bound)

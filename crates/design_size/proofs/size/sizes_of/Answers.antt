@@ -1,5 +1,5 @@
 use Rattle.std.proofs.Common.{◌∙◌, sym, ap, subst, List, length, replicate, true}
-use Rattle.verilog_bind.specs.declared.bound.BoundModule.{BoundModule}
+use Rattle.bound_source.specs.declared.bound.BoundModule.{BoundModule}
 use Rattle.design_size.specs.Sizes.{AreSizes}
 use Rattle.design_size.proofs.Levels.{level_none, level_step, below_seen}
 use Rattle.design_size.proofs.size.sizes_of.Goals as goal

@@ -1,6 +1,6 @@
 use Rattle.std.proofs.Common.{◌≡◌, ◌<◌, ℕ, Some}
 use Rattle.std.specs.Prelude.{slice_get}
-use Rattle.verilog_bind.specs.declared.bound.BoundModule.{BoundModule}
+use Rattle.bound_source.specs.declared.bound.BoundModule.{BoundModule}
 use Rattle.design_size.specs.Rounds.{AreBelow}
 use Rattle.design_size.proofs.tests.are_all_below.Given as goal
 

@@ -1,6 +1,6 @@
 use Rattle.std.proofs.Common.{◌≡◌, ◌<◌, ℕ, Some}
 use Rattle.std.specs.Prelude.{slice_get}
-use Rattle.verilog_bind.specs.declared.bound.BoundInstance.{BoundInstance}
+use Rattle.bound_source.specs.declared.bound.BoundInstance.{BoundInstance}
 use Rattle.design_size.specs.Hierarchy.{module_of}
 use Rattle.design_size.proofs.tests.are_below.Given as goal
 

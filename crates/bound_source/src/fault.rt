@@ -1,7 +1,7 @@
 //! Why a source cannot be bound.
 
 ghost use Rattle.std.specs.Prelude.{◌≡◌};
-ghost use Rattle.verilog_bind.specs.declared.fault.BindFault.TheVariants.{Memory};
+ghost use Rattle.bound_source.specs.declared.fault.BindFault.TheVariants.{Memory};
 
 use rsfq_ids::list::{List, NoMemory};
 use rsfq_ids::name::Name;

@@ -3,10 +3,10 @@ use Rattle.std.specs.Prelude.{◌≡◌, ◌≢◌, ◌⊎◌, ℕ, List, [], �
 use Rattle.std.specs.List.{All}
 use Rattle.verilog_sites.specs.Sites.{Site}
 use Rattle.verilog_sites.specs.Refused.{IsPortTwice, IsUnknownName, IsOutOfRange, IsTooWide}
-use Rattle.verilog_bind.specs.declared.fault.BindFault.{BindFault}
-use Rattle.verilog_bind.specs.declared.fault.BindFault.TheVariants as fault
-use Rattle.verilog_bind.specs.Modules.{Setting}
-use Rattle.verilog_bind.specs.Faults.{Place, IsBefore, HasReachedSites, IsDuplicate, HasNoTop, HasTwoTops, HasNoKind, IsRing, IsUnknownPort, HasTooMany, HasWidths}
+use Rattle.bound_source.specs.declared.fault.BindFault.{BindFault}
+use Rattle.bound_source.specs.declared.fault.BindFault.TheVariants as fault
+use Rattle.bound_source.specs.Modules.{Setting}
+use Rattle.bound_source.specs.Faults.{Place, IsBefore, HasReachedSites, IsDuplicate, HasNoTop, HasTwoTops, HasNoKind, IsRing, IsUnknownPort, HasTooMany, HasWidths}
 
 -- the causes
 pub data Line : Type 0 where

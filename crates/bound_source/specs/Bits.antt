@@ -1,7 +1,7 @@
 -- Ranges of vectors, the bits of wires by their places and printed names, and those of ports.
 use Rattle.std.specs.Prelude.{ℕ, List}
 use Rattle.std.specs.List.{flat_map}
-use Rattle.verilog_bind.specs.declared.bound.BoundPort.{BoundPort}
+use Rattle.bound_source.specs.declared.bound.BoundPort.{BoundPort}
 pub use Rattle.verilog_sites.specs.Selects.{width_of, index_at, bit_name, bit_names}
 
 -- the printed names of the bits of ports, in port order

@@ -6,7 +6,8 @@ use Rattle.verilog_sites.specs.Sites.{Operand, Site, Listed, Port, Wire, Assign,
 use Rattle.verilog_sites.specs.Selects.{width_of, Selects}
 use Rattle.verilog_sites.specs.Again.{IsAgain, IsBitAgain}
 use Rattle.verilog_sites.specs.Scope.{IsAt, Stands, StandsBefore, IsPort, HasDirection, IsKnown, HasRange, ExprWidth}
-use Rattle.verilog_bind.specs.Modules.{Setting, IsModuleNamed, IsCellNamed, MeansModule, MeansCell, Instantiates, IsFree, IsTop, IsReached, HasPorts}
+use Rattle.module_tree.specs.Modules.{IsChain}
+use Rattle.bound_source.specs.Modules.{Setting, IsModuleNamed, IsCellNamed, MeansModule, MeansCell, IsFree, IsTop, IsReached, HasPorts}
 
 -- A place in the text: a site of a module, both counted from 0.
 pub record Place : Type 0 where
@@ -69,12 +70,6 @@ pub record HasNoKind (setting : Setting) (place : Place) (kind : List ℕ) : Typ
   pub there : IsAt all place.site (Instance kind name links)
   pub none : ¬ IsKind setting kind
 
--- each module instantiates the next, and the last one the module `back`
-abbrev pub IsChain : Setting → ℕ → List ℕ → Type 0
-IsChain setting back [] = ⊥
-IsChain setting back (at ∷ []) = Instantiates setting at back
-IsChain setting back (at ∷ next ∷ rest) = Instantiates setting at next × IsChain setting back (next ∷ rest)
-
 -- Reached modules that instantiate each other in a ring, from the first in text order on, by their places and their names.
 pub record IsRing (setting : Setting) (place : Place) (names : List (List ℕ)) : Type 0 where
   pub head : place.site ≡ 0
@@ -82,7 +77,7 @@ pub record IsRing (setting : Setting) (place : Place) (names : List (List ℕ)) 
   pub others : List ℕ
   pub later : All (λ at. place.at < at) others
   pub once : AllPairs (λ one other. one ≢ other) others
-  pub chain : IsChain setting place.at (place.at ∷ others)
+  pub chain : IsChain setting.modules place.at (place.at ∷ others)
   pub names_are : AllZip (IsModuleNamed setting) (place.at ∷ others) names
 
 -- ---- ports

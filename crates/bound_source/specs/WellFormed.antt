@@ -5,17 +5,17 @@ use Rattle.std.specs.List.{All, AllPairs}
 use Rattle.rsfq_ids.specs.declared.table.CellTable.{CellTable}
 use Rattle.rsfq_ids.specs.declared.table.CellRow.{CellRow}
 use Rattle.rsfq_ids.specs.WellFormed.{AreDistinct}
-use Rattle.verilog_bind.specs.declared.bound.BoundPort.{BoundPort}
-use Rattle.verilog_bind.specs.declared.bound.BoundWire.{BoundWire}
-use Rattle.verilog_bind.specs.declared.bound.BoundPart.{BoundPart}
-use Rattle.verilog_bind.specs.declared.bound.BoundAssign.{BoundAssign}
-use Rattle.verilog_bind.specs.declared.bound.BoundKind.{BoundKind}
-use Rattle.verilog_bind.specs.declared.bound.BoundKind.TheVariants.{Module, Cell}
-use Rattle.verilog_bind.specs.declared.bound.BoundLink.{BoundLink}
-use Rattle.verilog_bind.specs.declared.bound.BoundInstance.{BoundInstance}
-use Rattle.verilog_bind.specs.declared.bound.BoundModule.{BoundModule}
-use Rattle.verilog_bind.specs.declared.bound.Bound.{Bound}
-use Rattle.verilog_bind.specs.Bits.{width_of, port_bit_names}
+use Rattle.bound_source.specs.declared.bound.BoundPort.{BoundPort}
+use Rattle.bound_source.specs.declared.bound.BoundWire.{BoundWire}
+use Rattle.bound_source.specs.declared.bound.BoundPart.{BoundPart}
+use Rattle.bound_source.specs.declared.bound.BoundAssign.{BoundAssign}
+use Rattle.bound_source.specs.declared.bound.BoundKind.{BoundKind}
+use Rattle.bound_source.specs.declared.bound.BoundKind.TheVariants.{Module, Cell}
+use Rattle.bound_source.specs.declared.bound.BoundLink.{BoundLink}
+use Rattle.bound_source.specs.declared.bound.BoundInstance.{BoundInstance}
+use Rattle.bound_source.specs.declared.bound.BoundModule.{BoundModule}
+use Rattle.bound_source.specs.declared.bound.Bound.{Bound}
+use Rattle.bound_source.specs.Bits.{width_of, port_bit_names}
 
 -- ---- ranges, wires and parts
 

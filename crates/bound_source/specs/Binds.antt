@@ -3,21 +3,22 @@ use Rattle.std.specs.Prelude.{◌≡◌, ◌↔◌, ℕ, ◌<◌, List, [], ◌+
 use Rattle.std.specs.Option.{option_map}
 use Rattle.std.specs.List.{AllZip, AllPairs, Contains, filter_map, flat_map, enumerate_from}
 use Rattle.verilog_tree.specs.Trees as tree
-use Rattle.verilog_sites.specs.Sites.{Operand, operands, Site, Wire, Linked, sites, port_names}
+use Rattle.verilog_sites.specs.Sites.{Operand, operands, Site, Wire, sites, port_names}
 use Rattle.verilog_sites.specs.Selects.{width_of, Selects}
-use Rattle.verilog_sites.specs.Scope.{IsAt, StandsBefore, IsPort, HasDirection, HasDeclaration}
-use Rattle.verilog_bind.specs.declared.bound.BoundPort.{BoundPort}
-use Rattle.verilog_bind.specs.declared.bound.BoundWire.{BoundWire}
-use Rattle.verilog_bind.specs.declared.bound.BoundPart.{BoundPart}
-use Rattle.verilog_bind.specs.declared.bound.BoundAssign.{BoundAssign}
-use Rattle.verilog_bind.specs.declared.bound.BoundKind.{BoundKind}
-use Rattle.verilog_bind.specs.declared.bound.BoundKind.TheVariants as kind
-use Rattle.verilog_bind.specs.declared.bound.BoundLink.{BoundLink}
-use Rattle.verilog_bind.specs.declared.bound.BoundInstance.{BoundInstance}
-use Rattle.verilog_bind.specs.declared.bound.BoundModule.{BoundModule}
-use Rattle.verilog_bind.specs.declared.bound.Bound.{Bound}
-use Rattle.verilog_bind.specs.WellFormed.{port_wire}
-use Rattle.verilog_bind.specs.Modules.{Setting, MeansModule, MeansCell, HasPorts, IsTop, IsReached}
+use Rattle.verilog_sites.specs.Scope.{IsAt, IsPort, HasDirection, HasDeclaration, IsLinked}
+use Rattle.verilog_sites.specs.Refused.{IsOperandAt}
+use Rattle.bound_source.specs.declared.bound.BoundPort.{BoundPort}
+use Rattle.bound_source.specs.declared.bound.BoundWire.{BoundWire}
+use Rattle.bound_source.specs.declared.bound.BoundPart.{BoundPart}
+use Rattle.bound_source.specs.declared.bound.BoundAssign.{BoundAssign}
+use Rattle.bound_source.specs.declared.bound.BoundKind.{BoundKind}
+use Rattle.bound_source.specs.declared.bound.BoundKind.TheVariants as kind
+use Rattle.bound_source.specs.declared.bound.BoundLink.{BoundLink}
+use Rattle.bound_source.specs.declared.bound.BoundInstance.{BoundInstance}
+use Rattle.bound_source.specs.declared.bound.BoundModule.{BoundModule}
+use Rattle.bound_source.specs.declared.bound.Bound.{Bound}
+use Rattle.bound_source.specs.WellFormed.{port_wire}
+use Rattle.bound_source.specs.Modules.{Setting, MeansModule, MeansCell, HasPorts, IsTop, IsReached}
 
 -- ---- expressions
 
@@ -85,11 +86,17 @@ pub record BindsPort (sites : List Site) (name : List ℕ) (port : BoundPort) : 
   pub name_is : port.name ≡ name
   pub declared : IsPort sites name port.output port.range
 
--- A site makes a wire that is no port: a declaration as a wire, or the first whole use in a link of a name that is not declared, which makes a scalar.
+-- a whole name is used at a place, in an assign or in a link
+abbrev pub IsUsedAt : List Site → ℕ → List ℕ → Type 0
+IsUsedAt sites at name = IsOperandAt sites at (record { name = name; select = None })
+
+-- A site makes a wire that is no port. A declaration as a wire makes one. A name that is declared neither as a port nor as a wire, and that stands whole
+-- in some link, is that of a scalar. Its first use makes it: the first place at which it stands whole, in a link or in an assign, which may be before
+-- every link that it stands in.
 pub data MakesWire (sites : List Site) (at : ℕ) (wire : BoundWire) : Type 0 where
   ByDeclaration : IsAt sites at (Wire wire.name wire.range) → ¬ HasDirection sites wire.name → MakesWire sites at wire
-  ByLink : IsAt sites at (Linked (record { name = wire.name; select = None })) → ¬ HasDirection sites wire.name → ¬ HasDeclaration sites wire.name
-      → ¬ StandsBefore sites at (Linked (record { name = wire.name; select = None })) → wire.range ≡ None → MakesWire sites at wire
+  ByUse : IsUsedAt sites at wire.name → ((earlier : ℕ) → earlier < at → ¬ IsUsedAt sites earlier wire.name) → IsLinked sites wire.name
+      → ¬ HasDirection sites wire.name → ¬ HasDeclaration sites wire.name → wire.range ≡ None → MakesWire sites at wire
 
 -- The wires that are no ports, in the order of the sites that make them.
 pub record AreOthers (sites : List Site) (wires : List BoundWire) : Type 0 where
