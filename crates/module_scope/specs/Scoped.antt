@@ -2,7 +2,7 @@
 use Rattle.std.specs.Prelude.{◌≡◌, ℕ, ◌<◌, nat_le, if◌then◌else◌, List, map, length, Option, Some, None, MatchOption}
 use Rattle.verilog_sites.specs.declared.sort.Sort.TheVariants as sort
 use Rattle.verilog_sites.specs.Sites.{Site, Port, Wire}
-use Rattle.verilog_sites.specs.Scope.{IsAt}
+use Rattle.verilog_sites.specs.Scope.{IsAt, HasRange}
 use Rattle.verilog_sites.specs.Again.{IsAgain}
 use Rattle.verilog_sites.specs.View.{view_site}
 use Rattle.module_scope.specs.declared.scope.Scope.{Scope}
@@ -22,6 +22,10 @@ pub record IsScope (scope : Scope) : Type 0 where
 -- no thing is given a name before a limit that an earlier one of its sort has
 abbrev pub HasNoDouble : List Site → ℕ → Type 0
 HasNoDouble all limit = (at : ℕ) (name : List ℕ) → at < limit → ¬ IsAgain all at name
+
+-- where no thing is given a name that an earlier one of its sort has, a name has one range
+abbrev pub RangesAreOne : Type 0
+RangesAreOne = (all : List Site) (name : List ℕ) (one other : Option (ℕ × ℕ)) → HasNoDouble all (length all) → HasRange all name one → HasRange all name other → one ≡ other
 
 -- The first place that gives a thing a name that an earlier one of its sort has, with the name; none where there is no such place.
 abbrev pub IsFirstDouble : List Site → Option (ℕ × List ℕ) → Type 0

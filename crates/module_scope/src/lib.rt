@@ -3,6 +3,7 @@
 
 mod checks;
 mod index;
+mod laws;
 mod links;
 mod outside;
 mod ranges;
@@ -10,6 +11,7 @@ mod scope;
 
 pub use checks::WIDTH_LIMIT;
 pub use index::Index;
+pub use laws::ranges_are_one;
 pub use ranges::{select, width_of};
 pub use scope::Scope;
 
