@@ -1,0 +1,14 @@
+pub mod Lists
+pub mod Pieces
+pub mod Owners
+pub mod Widths
+pub mod Assigns
+pub mod Links
+pub mod Ranks
+pub mod Printed
+pub mod Whole
+pub mod Follows
+pub mod Ones
+pub mod Unique
+pub mod Answered
+pub mod Rings

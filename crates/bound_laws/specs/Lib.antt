@@ -1,0 +1,7 @@
+pub mod Standing
+pub mod Homes
+pub mod Orders
+pub mod Laws
+pub mod Single
+pub mod Refusals
+pub mod Hierarchy
