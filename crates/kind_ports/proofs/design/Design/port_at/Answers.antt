@@ -1,0 +1,38 @@
+use Rattle.verilog_tree.specs.Views.{view_head, view_module}
+use Rattle.verilog_sites.specs.Sites.{port_names}
+use Rattle.module_tree.specs.declared.kinds.Meaning.TheVariants as meaning
+use Rattle.bound_source.specs.WellFormed.{cell_ports}
+use Rattle.kind_ports.specs.Design.{setting_of}
+use Rattle.kind_ports.proofs.Ports.{holder_there, cell_there, module_ports, pins, matched, nothing, at_found, at_none}
+use Rattle.kind_ports.proofs.design.Design.port_at.Goals as goal
+
+pub returns-in_ok-get-in-Some-Module-clause-found : goal.returns-in_ok-get-in-Some-Module-clause-found
+returns-in_ok-get-in-Some-Module-clause-found c =
+    let holder = c.in_ok-get-in-Some-Module.field-0 in
+    let there = holder_there c.args.self.now.source.now.modules c.in-Some-Module.at c.get.result holder c.get.ensures c.in_ok-get-in-Some-Module.was in
+    let ports = module_ports (setting_of c.args.self.now) c.args.kind.now c.in-Some-Module.at (view_module holder.now) (matched (setting_of c.args.self.now) c.args.kind.now c.in-Some-Module.field-0 (meaning.Module c.in-Some-Module.at) c.in-Some-Module.field-0-is c.in-Some-Module.ensures) there in
+    at_found (setting_of c.args.self.now) c.args.kind.now (port_names (view_head holder.now.head)) c.args.place c.head_port.result ports c.head_port.ensures
+
+pub returns-in_ok-get-in-Some-Module-clause-none : goal.returns-in_ok-get-in-Some-Module-clause-none
+returns-in_ok-get-in-Some-Module-clause-none c =
+    let holder = c.in_ok-get-in-Some-Module.field-0 in
+    let there = holder_there c.args.self.now.source.now.modules c.in-Some-Module.at c.get.result holder c.get.ensures c.in_ok-get-in-Some-Module.was in
+    let ports = module_ports (setting_of c.args.self.now) c.args.kind.now c.in-Some-Module.at (view_module holder.now) (matched (setting_of c.args.self.now) c.args.kind.now c.in-Some-Module.field-0 (meaning.Module c.in-Some-Module.at) c.in-Some-Module.field-0-is c.in-Some-Module.ensures) there in
+    at_none (setting_of c.args.self.now) c.args.kind.now (port_names (view_head holder.now.head)) c.args.place c.head_port.result ports c.head_port.ensures
+
+pub returns-in_ok-get-in-Some-Cell-clause-found : goal.returns-in_ok-get-in-Some-Cell-clause-found
+returns-in_ok-get-in-Some-Cell-clause-found c =
+    let cell = c.in_ok-get-in-Some-Cell.field-0 in
+    let there = cell_there c.args.self.now.cells.now.rows c.in-Some-Cell.row c.get-in-Some-Cell.result cell c.get-in-Some-Cell.ensures c.in_ok-get-in-Some-Cell.was in
+    let ports = pins (setting_of c.args.self.now) c.args.kind.now c.in-Some-Cell.row cell.now (matched (setting_of c.args.self.now) c.args.kind.now c.in-Some-Cell.field-0 (meaning.Cell c.in-Some-Cell.row) c.in-Some-Cell.field-0-is c.in-Some-Cell.ensures) there in
+    at_found (setting_of c.args.self.now) c.args.kind.now (cell_ports cell.now) c.args.place c.cell_port.result ports c.cell_port.ensures
+
+pub returns-in_ok-get-in-Some-Cell-clause-none : goal.returns-in_ok-get-in-Some-Cell-clause-none
+returns-in_ok-get-in-Some-Cell-clause-none c =
+    let cell = c.in_ok-get-in-Some-Cell.field-0 in
+    let there = cell_there c.args.self.now.cells.now.rows c.in-Some-Cell.row c.get-in-Some-Cell.result cell c.get-in-Some-Cell.ensures c.in_ok-get-in-Some-Cell.was in
+    let ports = pins (setting_of c.args.self.now) c.args.kind.now c.in-Some-Cell.row cell.now (matched (setting_of c.args.self.now) c.args.kind.now c.in-Some-Cell.field-0 (meaning.Cell c.in-Some-Cell.row) c.in-Some-Cell.field-0-is c.in-Some-Cell.ensures) there in
+    at_none (setting_of c.args.self.now) c.args.kind.now (cell_ports cell.now) c.args.place c.cell_port.result ports c.cell_port.ensures
+
+pub returns-in-None-clause-none : goal.returns-in-None-clause-none
+returns-in-None-clause-none c = λ names ports. absurd (nothing (setting_of c.args.self.now) c.args.kind.now c.in-None.ensures names ports)

@@ -1,0 +1,57 @@
+use Rattle.std.proofs.Common.{Option, ℕ, Some, subst, sym}
+use Rattle.module_tree.specs.declared.kinds.Meaning.TheVariants as meaning
+use Rattle.module_tree.specs.Modules.{Means}
+use Rattle.module_tree.specs.Names.{IsFirstPlace}
+use Rattle.verilog_sites.specs.Sites.{port_names}
+use Rattle.bound_source.specs.WellFormed.{cell_ports}
+use Rattle.kind_ports.specs.Design.{ArePortsOf, setting_of}
+use Rattle.kind_ports.proofs.Ports.{matched, looked_up, found_in_first, cell_there, module_ports, pins, place_found, place_none, nothing}
+use Rattle.kind_ports.proofs.design.Design.port_place.Goals as goal
+
+pub returns-in_err-get-in-Some-Module-clause-none : goal.returns-in_err-get-in-Some-Module-clause-none
+returns-in_err-get-in-Some-Module-clause-none c =
+    let setting = setting_of c.args.self.now in
+    let at = c.in-Some-Module.at in
+    let means : Means setting.modules setting.table c.args.kind.now (Some (meaning.Module at)) = matched setting c.args.kind.now c.in-Some-Module.field-0 (meaning.Module at) c.in-Some-Module.field-0-is c.in-Some-Module.ensures in
+    absurd (found_in_first ArePortsOf setting.modules c.args.self.now.ports.now at means.0.0 c.requires.ports means.0.1 c.in_err-get-in-Some-Module.ensures.lookup.3)
+
+pub returns-in_ok-get-in-Some-Module-clause-found : goal.returns-in_ok-get-in-Some-Module-clause-found
+returns-in_ok-get-in-Some-Module-clause-found c =
+    let setting = setting_of c.args.self.now in
+    let at = c.in-Some-Module.at in
+    let found = c.in_ok-get-in-Some-Module.ensures.lookup in
+    let means : Means setting.modules setting.table c.args.kind.now (Some (meaning.Module at)) = matched setting c.args.kind.now c.in-Some-Module.field-0 (meaning.Module at) c.in-Some-Module.field-0-is c.in-Some-Module.ensures in
+    let owner = looked_up ArePortsOf setting.modules c.args.self.now.ports.now at c.in_ok-get-in-Some-Module.field-0.now c.requires.ports found.3.0 found.1 in
+    let names = port_names owner.0.head in
+    place_found setting c.args.kind.now names c.args.name.now c.find.result (module_ports setting c.args.kind.now at owner.0 means owner.1)
+    (subst (λ (p : Option ℕ). IsFirstPlace names c.args.name.now p) (sym c.find.ensures) (owner.2 c.args.name.now))
+
+pub returns-in_ok-get-in-Some-Module-clause-none : goal.returns-in_ok-get-in-Some-Module-clause-none
+returns-in_ok-get-in-Some-Module-clause-none c =
+    let setting = setting_of c.args.self.now in
+    let at = c.in-Some-Module.at in
+    let found = c.in_ok-get-in-Some-Module.ensures.lookup in
+    let means : Means setting.modules setting.table c.args.kind.now (Some (meaning.Module at)) = matched setting c.args.kind.now c.in-Some-Module.field-0 (meaning.Module at) c.in-Some-Module.field-0-is c.in-Some-Module.ensures in
+    let owner = looked_up ArePortsOf setting.modules c.args.self.now.ports.now at c.in_ok-get-in-Some-Module.field-0.now c.requires.ports found.3.0 found.1 in
+    let names = port_names owner.0.head in
+    place_none setting c.args.kind.now names c.args.name.now c.find.result (module_ports setting c.args.kind.now at owner.0 means owner.1)
+    (subst (λ (p : Option ℕ). IsFirstPlace names c.args.name.now p) (sym c.find.ensures) (owner.2 c.args.name.now))
+
+pub returns-in_ok-get-in-Some-Cell-clause-found : goal.returns-in_ok-get-in-Some-Cell-clause-found
+returns-in_ok-get-in-Some-Cell-clause-found c =
+    let setting = setting_of c.args.self.now in
+    let cell = c.in_ok-get-in-Some-Cell.field-0 in
+    let there = cell_there c.args.self.now.cells.now.rows c.in-Some-Cell.row c.get-in-Some-Cell.result cell c.get-in-Some-Cell.ensures c.in_ok-get-in-Some-Cell.was in
+    let ports = pins setting c.args.kind.now c.in-Some-Cell.row cell.now (matched setting c.args.kind.now c.in-Some-Cell.field-0 (meaning.Cell c.in-Some-Cell.row) c.in-Some-Cell.field-0-is c.in-Some-Cell.ensures) there in
+    place_found setting c.args.kind.now (cell_ports cell.now) c.args.name.now c.cell_place.result ports c.cell_place.ensures
+
+pub returns-in_ok-get-in-Some-Cell-clause-none : goal.returns-in_ok-get-in-Some-Cell-clause-none
+returns-in_ok-get-in-Some-Cell-clause-none c =
+    let setting = setting_of c.args.self.now in
+    let cell = c.in_ok-get-in-Some-Cell.field-0 in
+    let there = cell_there c.args.self.now.cells.now.rows c.in-Some-Cell.row c.get-in-Some-Cell.result cell c.get-in-Some-Cell.ensures c.in_ok-get-in-Some-Cell.was in
+    let ports = pins setting c.args.kind.now c.in-Some-Cell.row cell.now (matched setting c.args.kind.now c.in-Some-Cell.field-0 (meaning.Cell c.in-Some-Cell.row) c.in-Some-Cell.field-0-is c.in-Some-Cell.ensures) there in
+    place_none setting c.args.kind.now (cell_ports cell.now) c.args.name.now c.cell_place.result ports c.cell_place.ensures
+
+pub returns-in-None-clause-none : goal.returns-in-None-clause-none
+returns-in-None-clause-none c = λ names ports. absurd (nothing (setting_of c.args.self.now) c.args.kind.now c.in-None.ensures names ports)

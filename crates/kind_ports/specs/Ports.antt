@@ -1,0 +1,36 @@
+-- The ports of kinds, as callers look them up.
+use Rattle.std.specs.Prelude.{◌≡◌, ℕ, List, length, slice_get, Option, Some}
+use Rattle.std.specs.Option.{option_map}
+use Rattle.rsfq_ids.specs.declared.table.CellTable.{CellTable}
+use Rattle.verilog_tree.specs.Trees.{Module}
+use Rattle.verilog_sites.specs.Sites.{sites}
+use Rattle.module_scope.specs.declared.scope.Scope.{Scope}
+use Rattle.module_scope.specs.Scoped.{IsFirstDouble}
+use Rattle.module_tree.specs.declared.kinds.Meaning.{Meaning}
+use Rattle.module_tree.specs.Names.{IsFirstPlace}
+use Rattle.module_tree.specs.Modules.{Means}
+use Rattle.bound_source.specs.Modules.{Setting, HasPorts}
+
+-- how many ports a kind has
+abbrev pub HasPortCount : Setting → List ℕ → ℕ → Type 0
+HasPortCount setting kind count = (names : List (List ℕ)) × HasPorts setting kind names × (count ≡ length names)
+
+-- the first place of a name among the ports of a kind
+abbrev pub HasPortPlace : Setting → List ℕ → List ℕ → ℕ → Type 0
+HasPortPlace setting kind name place = (names : List (List ℕ)) × HasPorts setting kind names × IsFirstPlace names name (Some place)
+
+-- the name of the port at a place of a kind
+abbrev pub HasPortAt : Setting → List ℕ → ℕ → List ℕ → Type 0
+HasPortAt setting kind place name = (names : List (List ℕ)) × HasPorts setting kind names × (slice_get names place ≡ Some name)
+
+-- the names in a module hold the first name that is given twice
+abbrev pub HasFirstDouble : Module → Scope → Type 0
+HasFirstDouble owner scope = IsFirstDouble (sites owner) (option_map (λ (at, name). (at, name.now)) scope.double)
+
+-- a name has one meaning
+abbrev pub KindsAreOne : Type 0
+KindsAreOne = (modules : List Module) (table : CellTable) (name : List ℕ) (one other : Option Meaning) → Means modules table name one → Means modules table name other → one ≡ other
+
+-- the ports of a kind are one list
+abbrev pub PortsAreOne : Type 0
+PortsAreOne = (setting : Setting) (kind : List ℕ) (one other : List (List ℕ)) → HasPorts setting kind one → HasPorts setting kind other → one ≡ other

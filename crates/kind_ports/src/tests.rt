@@ -1,0 +1,128 @@
+//! Kinds of a text and of a table with their ports.
+
+ghost use Rattle.std.specs.Prelude.{◌≤◌, ◌^◌, length};
+ghost use Rattle.kind_ports.specs.Design.{IsDesign};
+
+use super::*;
+use module_tree::{Kinds, Meaning};
+use rsfq_ids::list::{List, NoMemory};
+use rsfq_ids::name::Name;
+use rsfq_ids::table::{CellRow, CellTable, Kind};
+use std::alloc::Global;
+use std::test::Fail;
+use verilog_lex::lex;
+use verilog_tree::{Source, parse};
+
+/// The tree of a text. Nothing where it has none or memory is wanting.
+fn tree_of(alloc: Global, text: &[u8]) -> Result<Source, NoMemory>
+    requires { length text.now ≤ 2 ^ 24 }
+{
+    let Ok(tokens) = lex(alloc, text) else {
+        return Err(NoMemory);
+    };
+    match parse(alloc, text, &tokens) {
+        Ok(source) => Ok(source),
+        Err(_) => Err(NoMemory),
+    }
+}
+
+fn names_of(alloc: Global, names: &[&str]) -> Result<List<Name>, NoMemory> {
+    let mut all = List::new(alloc);
+    for name in names {
+        all.push(Name::of(alloc, name)?)?;
+    }
+    Ok(all)
+}
+
+/// A table with a cell AND of the inputs a and b, the clock c and the outputs q and a.
+fn table_of(alloc: Global) -> Result<CellTable, NoMemory> {
+    let mut rows = List::new(alloc);
+    rows.push(CellRow {
+        name: Name::of(alloc, "AND")?,
+        kind: Kind::Gate,
+        inputs: names_of(alloc, &["a", "b"])?,
+        clock: Some(Name::of(alloc, "c")?),
+        outputs: names_of(alloc, &["q", "a"])?,
+        truth: 8,
+        low: 0,
+        high: 0,
+        setup: 0,
+        hold: 0,
+        dead: 0,
+    })?;
+    Ok(CellTable { rows })
+}
+
+/// What is looked up of a kind: its meaning, how many ports it has, where the name stands among them, the name at place 3, and the width.
+fn answer(alloc: Global, design: &Design<'_, '_>, kind: &str, name: &str) -> Result<String, Fail>
+    requires { IsDesign design.now }
+{
+    let meaning = design.meaning(kind);
+    let count = design.port_count(kind);
+    let place = design.port_place(kind, name);
+    let last = design.port_at(kind, 3);
+    let width = design.port_width(kind, name);
+    Ok(format!(in alloc; "{meaning:?} {count:?} {place:?} {last:?} {width:?}")?)
+}
+
+/// The same, of a text and a table.
+fn answer_in<'a>(
+    alloc: Global,
+    source: &'a Source,
+    cells: &'a CellTable,
+    kind: &str,
+    name: &str,
+) -> Result<String, Fail> {
+    let kinds = Kinds::of(alloc, source, cells)?;
+    let all = sites_of(alloc, source)?;
+    let scopes = scopes_of(alloc, all.as_slice())?;
+    let ports = ports_of(alloc, source)?;
+    kinds_are_one();
+    ports_are_one();
+    let design = Design {
+        source,
+        cells,
+        top: None,
+        kinds: &kinds,
+        scopes: scopes.as_slice(),
+        ports: ports.as_slice(),
+    };
+    answer(alloc, &design, kind, name)
+}
+
+#[test]
+fn ports_are_found(rt: HostRuntime) -> Result<(), Fail> {
+    let cells = table_of(rt.alloc())?;
+    let source = tree_of(
+        rt.alloc(),
+        b"module m(x, y, x, z); input [3:0] x; wire [7:0] y; endmodule module n(input [0:1] p, q, output r); endmodule module m; endmodule",
+    )?;
+    let table: [(&str, &str, &str); 9] = [
+        (
+            "m",
+            "x",
+            "Some(Module(0)) Some(4) Some(0) Some(\"z\") Some(4)",
+        ),
+        ("m", "y", "Some(Module(0)) Some(4) Some(1) Some(\"z\") None"),
+        ("m", "w", "Some(Module(0)) Some(4) None Some(\"z\") None"),
+        ("n", "q", "Some(Module(1)) Some(3) Some(1) None Some(2)"),
+        ("n", "r", "Some(Module(1)) Some(3) Some(2) None Some(1)"),
+        (
+            "AND",
+            "a",
+            "Some(Cell(0)) Some(5) Some(0) Some(\"q\") Some(1)",
+        ),
+        (
+            "AND",
+            "c",
+            "Some(Cell(0)) Some(5) Some(2) Some(\"q\") Some(1)",
+        ),
+        ("AND", "d", "Some(Cell(0)) Some(5) None Some(\"q\") Some(1)"),
+        ("OR", "a", "None None None None None"),
+    ];
+    for (kind, name, wanted) in table {
+        let answer = answer_in(rt.alloc(), &source, &cells, kind, name)?;
+        assert_eq!(rt; answer.as_str(), wanted);
+    }
+    Ok(())
+}
