@@ -1,0 +1,12 @@
+pub mod Lookups
+pub mod Unknown
+pub mod More
+pub mod Every
+pub mod Followed
+pub mod Used
+pub mod Sums
+pub mod OneWidth
+pub mod Sides
+pub mod Exprs
+pub mod Measures
+pub mod Tested

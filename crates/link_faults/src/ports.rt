@@ -1,0 +1,136 @@
+//! Ports that there are not, and links by order past the last port.
+
+ghost use Rattle.std.specs.Prelude.{◌≡◌, ◌<◌, ℕ, List, length, Some, IfSome, IfNone};
+ghost use Rattle.verilog_tree.specs.Views.{view_links};
+ghost use Rattle.verilog_sites.specs.Sites.{Listed};
+ghost use Rattle.verilog_sites.specs.Scope.{Stands, HasDirection};
+ghost use Rattle.verilog_sites.specs.View.{view_site};
+ghost use Rattle.module_scope.specs.Scoped.{IsScope, sites_of};
+ghost use Rattle.bound_source.specs.Faults.{IsUnknownPort, HasTooMany};
+ghost use Rattle.kind_ports.specs.Design.{IsDesign, setting_of};
+ghost use Rattle.link_faults.specs.Sited.{InModule, LacksPort, IsNoPort, HasMore, HasMoreLinks, HasMoreAt};
+
+use kind_ports::{Design, ports_are_one};
+use module_scope::Scope;
+use verilog_sites::Site;
+use verilog_tree::Links;
+
+/// The name of a port that there is not, at a site of the module at a place of the text: a listed port without a direction, a direction
+/// without a listed port, or a link by name that the kind has no port for. Nothing stands at a place or a site past the last.
+pub fn unknown_port<'a>(design: &Design<'_, 'a>, at: usize, site: usize) -> Option<&'a str>
+    requires { IsDesign design.now }
+    ensures found { IfSome result (λ name. InModule (setting_of design.now) at (λ all. IsUnknownPort (setting_of design.now) all site name.now)) }
+    ensures none { IfNone result ((name : List ℕ) → ¬ InModule (setting_of design.now) at (λ all. IsUnknownPort (setting_of design.now) all site name)) }
+{
+    let scope = design.scopes.get(at)?;
+    let here = scope.sites.get(site)?;
+    unknown_at(design, scope, here)
+}
+
+/// The name of a port that there is not, at one site.
+fn unknown_at<'a>(
+    design: &Design<'_, 'a>,
+    scope: &Scope<'_, 'a>,
+    site: &Site<'a>,
+) -> Option<&'a str>
+    requires design { IsDesign design.now }
+    requires scope { IsScope scope.now }
+    ensures found { IfSome result (λ name. LacksPort (setting_of design.now) (sites_of scope.now) (view_site site.now) name.now) }
+    ensures none { IfNone result ((name : List ℕ) → ¬ LacksPort (setting_of design.now) (sites_of scope.now) (view_site site.now) name) }
+{
+    match *site {
+        Site::Listed(name) => without_direction(scope, name),
+        Site::Port { name, .. } => without_listing(scope, name),
+        Site::Named { kind, port, .. } => without_port(design, kind, port),
+        _ => None,
+    }
+}
+
+/// The name, where it has no direction.
+fn without_direction<'a>(scope: &Scope<'_, 'a>, name: &'a str) -> Option<&'a str>
+    requires { IsScope scope.now }
+    ensures found { IfSome result (λ found. (name.entry.now ≡ found.now) × (¬ HasDirection (sites_of scope.now) name.entry.now)) }
+    ensures none { IfNone result (HasDirection (sites_of scope.now) name.entry.now) }
+{
+    match scope.directions.find(name) {
+        Some(_) => None,
+        None => Some(name),
+    }
+}
+
+/// The name, where it is not listed.
+fn without_listing<'a>(scope: &Scope<'_, 'a>, name: &'a str) -> Option<&'a str>
+    requires { IsScope scope.now }
+    ensures found { IfSome result (λ found. (name.entry.now ≡ found.now) × (¬ Stands (sites_of scope.now) (Listed name.entry.now))) }
+    ensures none { IfNone result (Stands (sites_of scope.now) (Listed name.entry.now)) }
+{
+    match scope.listed.find(name) {
+        Some(_) => None,
+        None => Some(name),
+    }
+}
+
+/// The name, where a kind that is a module or a cell has no such port.
+fn without_port<'a>(design: &Design<'_, 'a>, kind: &str, name: &'a str) -> Option<&'a str>
+    requires { IsDesign design.now }
+    ensures found { IfSome result (λ found. (name.entry.now ≡ found.now) × IsNoPort (setting_of design.now) kind.now name.entry.now) }
+    ensures none { IfNone result (¬ IsNoPort (setting_of design.now) kind.now name.entry.now) }
+{
+    ports_are_one();
+    design.port_count(kind)?;
+    match design.port_place(kind, name) {
+        Some(_) => None,
+        None => Some(name),
+    }
+}
+
+/// The number of links by order of the instance at a site, and that of the ports of its kind, where there are more links. Nothing stands at a
+/// place or a site past the last.
+pub fn too_many(design: &Design<'_, '_>, at: usize, site: usize) -> Option<(u64, u64)>
+    requires { IsDesign design.now }
+    ensures found { IfSome result (λ counts. InModule (setting_of design.now) at (λ all. HasTooMany (setting_of design.now) all site counts.0 counts.1)) }
+    ensures none { IfNone result ((have want : ℕ) → ¬ InModule (setting_of design.now) at (λ all. HasTooMany (setting_of design.now) all site have want)) }
+{
+    let scope = design.scopes.get(at)?;
+    let here = scope.sites.get(site)?;
+    more_at(design, here)
+}
+
+/// The number of links by order of the instance at one site, and that of the ports of its kind, where there are more links.
+fn more_at(design: &Design<'_, '_>, site: &Site<'_>) -> Option<(u64, u64)>
+    requires { IsDesign design.now }
+    ensures found { IfSome result (λ counts. HasMoreAt (setting_of design.now) (view_site site.now) counts.0 counts.1) }
+    ensures none { IfNone result ((have want : ℕ) → ¬ HasMoreAt (setting_of design.now) (view_site site.now) have want) }
+{
+    match *site {
+        Site::Instance { kind, links, .. } => more_links(design, kind, links),
+        _ => None,
+    }
+}
+
+/// The number of links by order, and that of the ports of a kind, where there are more links.
+fn more_links(design: &Design<'_, '_>, kind: &str, links: &Links) -> Option<(u64, u64)>
+    requires { IsDesign design.now }
+    ensures found { IfSome result (λ counts. HasMoreLinks (setting_of design.now) kind.now (view_links links.now) counts.0 counts.1) }
+    ensures none { IfNone result ((have want : ℕ) → ¬ HasMoreLinks (setting_of design.now) kind.now (view_links links.now) have want) }
+{
+    match links {
+        Links::Named(_) => None,
+        Links::Ordered(links) => more_than_ports(design, kind, links.len()),
+    }
+}
+
+/// A number, and that of the ports of a kind, where the first is greater.
+fn more_than_ports(design: &Design<'_, '_>, kind: &str, have: usize) -> Option<(u64, u64)>
+    requires { IsDesign design.now }
+    ensures found { IfSome result (λ counts. (counts.0 ≡ have) × HasMore (setting_of design.now) kind.now counts.0 counts.1) }
+    ensures none { IfNone result ((want : ℕ) → ¬ HasMore (setting_of design.now) kind.now have want) }
+{
+    ports_are_one();
+    let want = design.port_count(kind)?;
+    if want < have {
+        Some((have as u64, want as u64))
+    } else {
+        None
+    }
+}

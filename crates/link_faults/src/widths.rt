@@ -1,0 +1,194 @@
+//! Two sides of other widths.
+
+ghost use Rattle.std.specs.Prelude.{◌≡◌, ◌≢◌, ◌↔◌, ◌<◌, ◌≤◌, ◌*◌, ◌^◌, ℕ, length, IfSome, IfNone, IsTrue};
+ghost use Rattle.std.specs.Option.{option_copied};
+ghost use Rattle.verilog_tree.specs.Views.{view_expr, view_optional};
+ghost use Rattle.verilog_sites.specs.Sites.{operands};
+ghost use Rattle.verilog_sites.specs.Selects.{width_of};
+ghost use Rattle.verilog_sites.specs.Scope.{SelectWidth, ExprWidth};
+ghost use Rattle.verilog_sites.specs.View.{view_site};
+ghost use Rattle.module_scope.specs.Scoped.{IsScope, HasNoDouble, sites_of};
+ghost use Rattle.bound_source.specs.Modules.{IsReached};
+ghost use Rattle.bound_source.specs.Faults.{HasWidths};
+ghost use Rattle.kind_ports.specs.Design.{IsDesign, setting_of};
+ghost use Rattle.link_faults.specs.Sited.{InModule};
+ghost use Rattle.link_faults.specs.Widths.{FitsSites, AreSingle, HasSelected, HaveWidth, all_operands, LinkWidth, link_count, PlaceWidth, IsWidths, operand_count, both};
+
+use kind_ports::{Design, kinds_are_one, ports_are_one};
+use module_scope::{Scope, ranges_are_one, select, width_of};
+use verilog_sites::Site;
+use verilog_tree::Expr;
+
+/// Whether the module at a place of the text has fewer than 2^32 sites.
+pub fn fits(design: &Design<'_, '_>, at: usize) -> bool
+    requires { IsDesign design.now }
+    ensures { IsTrue result ↔ FitsSites (setting_of design.now) at }
+{
+    match design.scopes.get(at) {
+        Some(scope) => scope.sites.len() < 1 << 32,
+        None => true,
+    }
+}
+
+/// The widths in bits of the two sides at a site, where they are not the same: of a link's expression and of its port, or of the right side
+/// and the left side of an assign. The module is reached, and no reached module gives a name to two things of one sort. Nothing stands at a
+/// site past the last.
+pub fn width(design: &Design<'_, '_>, at: usize, site: usize) -> Option<(u64, u64)>
+    requires design { IsDesign design.now }
+    requires reached { IsReached (setting_of design.now) at }
+    requires single { AreSingle (setting_of design.now) }
+    requires fits { FitsSites (setting_of design.now) at }
+    ensures found { IfSome result (λ widths. InModule (setting_of design.now) at (λ all. HasWidths (setting_of design.now) all site widths.0 widths.1) × (widths.0 ≢ widths.1)) }
+    ensures none { IfNone result ((have want : ℕ) → have ≢ want → ¬ InModule (setting_of design.now) at (λ all. HasWidths (setting_of design.now) all site have want)) }
+{
+    ranges_are_one();
+    ports_are_one();
+    kinds_are_one();
+    let scope = design.scopes.get(at)?;
+    let here = scope.sites.get(site)?;
+    unless_same(widths_at(design, scope, here)?)
+}
+
+/// Two widths, where they are not the same.
+fn unless_same(widths: (u64, u64)) -> Option<(u64, u64)>
+    ensures found { IfSome result (λ found. (found ≡ widths) × (widths.0 ≢ widths.1)) }
+    ensures none { IfNone result (widths.0 ≡ widths.1) }
+{
+    if widths.0 == widths.1 {
+        None
+    } else {
+        Some(widths)
+    }
+}
+
+/// The widths of the two sides at one site.
+fn widths_at(design: &Design<'_, '_>, scope: &Scope<'_, '_>, site: &Site<'_>) -> Option<(u64, u64)>
+    requires design { IsDesign design.now }
+    requires scope { IsScope scope.now }
+    requires single { HasNoDouble (sites_of scope.now) (length (sites_of scope.now)) }
+    requires few { operand_count (view_site site.now) < 2 ^ 32 }
+    ensures found { IfSome result (λ widths. IsWidths (setting_of design.now) (sites_of scope.now) (view_site site.now) widths.0 widths.1) }
+    ensures none { IfNone result ((have want : ℕ) → ¬ IsWidths (setting_of design.now) (sites_of scope.now) (view_site site.now) have want) }
+{
+    match *site {
+        Site::Assign { to, from } => both(expr_width(scope, from), expr_width(scope, to)),
+        Site::Named { kind, port, expr } => {
+            both(link_width(scope, expr), design.port_width(kind, port))
+        }
+        Site::Ordered { kind, place, expr } => {
+            both(link_width(scope, expr), place_width(design, kind, place))
+        }
+        _ => None,
+    }
+}
+
+/// Two answers, where there are both.
+fn both(one: Option<u64>, other: Option<u64>) -> Option<(u64, u64)>
+    ensures { result ≡ both one other }
+{
+    match (one, other) {
+        (Some(one), Some(other)) => Some((one, other)),
+        _ => None,
+    }
+}
+
+/// The width of the port at a place of a kind.
+fn place_width(design: &Design<'_, '_>, kind: &str, place: usize) -> Option<u64>
+    requires { IsDesign design.now }
+    ensures found { IfSome result (PlaceWidth (setting_of design.now) kind.now place) }
+    ensures none { IfNone result ((width : ℕ) → ¬ PlaceWidth (setting_of design.now) kind.now place width) }
+{
+    ports_are_one();
+    let name = design.port_at(kind, place)?;
+    design.port_width(kind, name)
+}
+
+/// The width of a link's expression, where it has one.
+fn link_width(scope: &Scope<'_, '_>, expr: Option<&Expr>) -> Option<u64>
+    requires scope { IsScope scope.now }
+    requires single { HasNoDouble (sites_of scope.now) (length (sites_of scope.now)) }
+    requires few { link_count (view_optional (option_copied expr)) < 2 ^ 32 }
+    ensures found { IfSome result (LinkWidth (sites_of scope.now) (view_optional (option_copied expr.entry))) }
+    ensures none { IfNone result ((width : ℕ) → ¬ LinkWidth (sites_of scope.now) (view_optional (option_copied expr.entry)) width) }
+{
+    match expr {
+        Some(expr) => expr_width(scope, expr),
+        None => None,
+    }
+}
+
+/// The width of an expression. `None` exactly where an operand has none: its name is neither declared nor made by a link, or bits are
+/// selected of it that it lacks.
+#[cycle(sum_widths)]
+fn expr_width(scope: &Scope<'_, '_>, expr: &Expr) -> Option<u64>
+    requires scope { IsScope scope.now }
+    requires single { HasNoDouble (sites_of scope.now) (length (sites_of scope.now)) }
+    requires few { length (operands (view_expr expr.now)) < 2 ^ 32 }
+    ensures found { IfSome result (ExprWidth (sites_of scope.now) (view_expr expr.now)) }
+    ensures small { IfSome result (λ width. width ≤ 2 ^ 32 * length (operands (view_expr expr.now))) }
+    ensures none { IfNone result ((width : ℕ) → ¬ ExprWidth (sites_of scope.now) (view_expr expr.now) width) }
+{
+    match expr {
+        Expr::Name(name) => operand_width(scope, name.as_str(), None),
+        Expr::Bit(name, at) => operand_width(scope, name.as_str(), Some((*at, *at))),
+        Expr::Part(name, left, right) => {
+            operand_width(scope, name.as_str(), Some((*left, *right)))
+        }
+        Expr::Join(parts) => joined_width(scope, parts.as_slice()),
+    }
+}
+
+/// The width of several expressions together.
+#[cycle(sum_widths)]
+fn joined_width(scope: &Scope<'_, '_>, parts: &[Expr]) -> Option<u64>
+    requires scope { IsScope scope.now }
+    requires single { HasNoDouble (sites_of scope.now) (length (sites_of scope.now)) }
+    requires few { length (all_operands parts.now) < 2 ^ 32 }
+    ensures found { IfSome result (HaveWidth (sites_of scope.now) (all_operands parts.now)) }
+    ensures small { IfSome result (λ width. width ≤ 2 ^ 32 * length (all_operands parts.now)) }
+    ensures none { IfNone result ((width : ℕ) → ¬ HaveWidth (sites_of scope.now) (all_operands parts.now) width) }
+{
+    let mut width = 0;
+    for part in parts {
+        width += expr_width(scope, part)?;
+    }
+    Some(width)
+}
+
+/// The width of an operand.
+fn operand_width(scope: &Scope<'_, '_>, name: &str, wanted: Option<(u32, u32)>) -> Option<u64>
+    requires scope { IsScope scope.now }
+    requires single { HasNoDouble (sites_of scope.now) (length (sites_of scope.now)) }
+    ensures found { IfSome result (SelectWidth (sites_of scope.now) name.now wanted) }
+    ensures small { IfSome result (λ width. width ≤ 2 ^ 32) }
+    ensures none { IfNone result ((width : ℕ) → ¬ SelectWidth (sites_of scope.now) name.now wanted width) }
+{
+    ranges_are_one();
+    let range = scope.range_of(name)?;
+    match wanted {
+        None => Some(range_width(range)),
+        Some(wanted) => selected_width(range, wanted),
+    }
+}
+
+/// The width of a range.
+fn range_width(range: Option<(u32, u32)>) -> u64
+    ensures is { result ≡ width_of range }
+    ensures small { result ≤ 2 ^ 32 }
+{
+    match range {
+        None => 1,
+        Some((left, right)) => width_of(Some((left, right))),
+    }
+}
+
+/// How many bits are selected of a range.
+fn selected_width(range: Option<(u32, u32)>, wanted: (u32, u32)) -> Option<u64>
+    ensures found { IfSome result (HasSelected range wanted) }
+    ensures small { IfSome result (λ count. count ≤ 2 ^ 32) }
+    ensures none { IfNone result ((count : ℕ) → ¬ HasSelected range wanted count) }
+{
+    let (left, right) = range?;
+    let (_, count) = select((left, right), wanted)?;
+    Some(count)
+}
