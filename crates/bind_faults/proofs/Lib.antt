@@ -1,0 +1,12 @@
+pub mod Order
+pub mod Places
+pub mod Sites
+pub mod KindNames
+pub mod OneTop
+pub mod FirstDoubles
+pub mod AllDoubles
+pub mod NoTops
+pub mod RingNames
+pub mod Linked
+pub mod Flags
+pub mod PortLinks

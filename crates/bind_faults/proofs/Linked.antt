@@ -1,0 +1,15 @@
+-- What is found in a module, by its list of sites.
+use Rattle.std.proofs.Common.{◌≤◌, ℕ, List, subst}
+use Rattle.verilog_sites.specs.Sites.{Site}
+use Rattle.bound_source.specs.Modules.{Setting}
+use Rattle.bound_source.specs.Faults.{HasSites}
+use Rattle.link_faults.specs.Sited.{InModule}
+use Rattle.link_faults.specs.Widths.{AreSingle}
+use Rattle.bind_faults.specs.Order.{IsClear}
+use Rattle.bind_faults.proofs.Places.{one_list, no_double}
+
+pub in_list : (setting : Setting) (at : ℕ) (all : List Site) (Fact : List Site → Type 0) → HasSites setting at all → InModule setting at Fact → Fact all
+in_list setting at all Fact has found = subst Fact (one_list setting at found.0 all found.1 has) found.2
+
+pub are_single : (setting : Setting) (count : ℕ) → 1 ≤ count → IsClear setting count → AreSingle setting
+are_single setting count some clear = λ at all has. no_double setting count at all some clear has

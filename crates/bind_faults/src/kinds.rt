@@ -1,0 +1,74 @@
+//! Kinds that mean nothing.
+
+ghost use Rattle.std.specs.Prelude.{◌≡◌, ◌<◌, ℕ, List, length, IfSome, IfNone};
+ghost use Rattle.std.specs.Option.{option_map};
+ghost use Rattle.verilog_sites.specs.View.{view_site};
+ghost use Rattle.module_scope.specs.Scoped.{sites_of};
+ghost use Rattle.bound_source.specs.Faults.{IsKind};
+ghost use Rattle.kind_ports.specs.Design.{setting_of};
+ghost use Rattle.bind_faults.specs.declared.check.SiteCheck.TheVariants.{Kinds};
+ghost use Rattle.bind_faults.specs.Checks.{AnswersAt, IsUnknownKind, kind_of};
+ghost use Rattle.bind_faults.specs.Design.{IsTold};
+
+use bound_source::BindFault;
+use kind_ports::Design;
+use module_scope::Scope;
+use rsfq_ids::name::Name;
+use std::alloc::Global;
+use verilog_sites::Site;
+
+/// The kind of the instance that a site is.
+fn instance_kind<'a>(site: &Site<'a>) -> Option<&'a str>
+    ensures { option_map (λ kind. kind.now) result ≡ kind_of (view_site site.now) }
+{
+    match site {
+        Site::Instance { kind, .. } => Some(kind),
+        _ => None,
+    }
+}
+
+/// The name, where it is neither a module's nor a cell's.
+fn unless_kind<'a>(design: &Design<'_, 'a>, name: &'a str) -> Option<&'a str>
+    requires { IsTold design.now }
+    ensures found { IfSome result (λ found. (found.now ≡ name.entry.now) × (¬ IsKind (setting_of design.now) name.entry.now)) }
+    ensures none { IfNone result (IsKind (setting_of design.now) name.entry.now) }
+{
+    match design.meaning(name) {
+        Some(_) => None,
+        None => Some(name),
+    }
+}
+
+/// The kind of an instance at a site, where it is neither a module nor a cell.
+fn find_unknown_kind<'a>(
+    design: &Design<'_, 'a>,
+    scope: &Scope<'_, 'a>,
+    site: usize,
+) -> Option<&'a str>
+    requires told { IsTold design.now }
+    requires there { site < length (sites_of scope.now) }
+    ensures found { IfSome result (λ kind. IsUnknownKind (setting_of design.now) (sites_of scope.now) site kind.now) }
+    ensures none { IfNone result ((kind : List ℕ) → ¬ IsUnknownKind (setting_of design.now) (sites_of scope.now) site kind) }
+{
+    match instance_kind(&scope.sites[site]) {
+        Some(kind) => unless_kind(design, kind),
+        None => None,
+    }
+}
+
+/// An instance of a kind that is neither a module nor a cell.
+pub fn unknown_kind<'a>(
+    alloc: Global,
+    design: &Design<'_, 'a>,
+    scope: &Scope<'_, 'a>,
+    site: usize,
+) -> Result<(), BindFault>
+    requires told { IsTold design.now }
+    requires there { site < length (sites_of scope.now) }
+    ensures { AnswersAt Kinds (setting_of design.now) (sites_of scope.now) site result }
+{
+    match find_unknown_kind(design, scope, site) {
+        Some(kind) => Err(BindFault::NoSuchModule(Name::of(alloc, kind)?)),
+        None => Ok(()),
+    }
+}

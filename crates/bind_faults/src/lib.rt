@@ -1,0 +1,15 @@
+//! Which fault of a source is answered: the causes are looked for in their order, each over the modules that the top reaches.
+#![tactic(auto)]
+
+mod check;
+mod doubles;
+mod find;
+mod kinds;
+mod rings;
+mod scan;
+mod tops;
+
+pub use find::{Reached, find_fault};
+
+#[cfg(test)]
+mod tests;
