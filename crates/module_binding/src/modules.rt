@@ -1,0 +1,98 @@
+//! The bound modules, and the whole bound source.
+
+ghost use Rattle.std.specs.Prelude.{◌≡◌, ◌↔◌, ◌<◌, ℕ, Some, true, false, length, slice_get, slice_index_or, IfOk};
+ghost use Rattle.std.specs.List.{AllZip, Contains};
+ghost use Rattle.bound_source.specs.Modules.{IsTop, IsReached};
+ghost use Rattle.bound_source.specs.Binds.{BindsModuleAt, Binds};
+ghost use Rattle.bound_source.specs.First.{HasNoFault};
+ghost use Rattle.verilog_tree.specs.Trees.{Module};
+ghost use Rattle.verilog_tree.specs.Text.{IsSpelledTree};
+ghost use Rattle.verilog_sites.specs.Sites.{sites};
+ghost use Rattle.kind_ports.specs.Design.{IsDesign, setting_of};
+ghost use Rattle.module_binding.specs.Sound.{IsBinder, setting_in, IsSoundModule, AreSoundModules};
+
+use crate::binder::Binder;
+use crate::numbering::Places;
+use bound_source::{Bound, BoundModule};
+use kind_ports::Design;
+use module_wires::{Wires, instances_are_sites};
+use rsfq_ids::list::{List, NoMemory};
+use rsfq_ids::name::Name;
+use small_numbers::numbers_are_small;
+use std::alloc::Global;
+
+/// The bound source of a design in which no cause for refusal stands, given its top and for each module of the text whether the top reaches
+/// it. In time n log n for n bytes of text.
+///
+/// # Errors
+///
+/// `NoMemory` alone, which may come at any time, and comes where a list has 2^32 items or more.
+pub fn bind_modules(
+    alloc: Global,
+    design: &Design<'_, '_>,
+    reached: &[bool],
+    top: usize,
+) -> Result<Bound, NoMemory>
+    requires design { IsDesign design.now }
+    requires tree { IsSpelledTree (setting_of design.now).modules }
+    requires top { IsTop (setting_of design.now) top }
+    requires flags { length reached.now ≡ length (setting_of design.now).modules }
+    requires reached { (at : ℕ) → (slice_index_or reached.now at false ≡ true) ↔ IsReached (setting_of design.now) at }
+    requires sound { HasNoFault (setting_of design.now) }
+    ensures { IfOk result (Binds (setting_of design.now)) }
+{
+    numbers_are_small();
+    instances_are_sites();
+    let all = Places::of(alloc, reached)?;
+    let binder = Binder {
+        design,
+        places: all.places.as_slice(),
+        numbers: all.numbers.as_slice(),
+    };
+    let modules = binder.bind_all(alloc)?;
+    Ok(Bound {
+        modules,
+        top: binder.number_of(top),
+    })
+}
+
+impl Binder<'_, '_> {
+    /// The modules at the places.
+    fn bind_all(&self, alloc: Global) -> Result<List<BoundModule>, NoMemory>
+        requires binder { IsBinder self.now }
+        requires sound { AreSoundModules (setting_in self.now) self.now.places.now }
+        ensures { IfOk result (AllZip (BindsModuleAt (setting_in self.now) self.now.places.now) self.now.places.now) }
+    {
+        let mut modules = List::new(alloc);
+        for at in self.places {
+            modules.push(self.bind_module(alloc, *at)?)?;
+        }
+        Ok(modules)
+    }
+
+    /// The module at a place of the text.
+    fn bind_module(&self, alloc: Global, at: usize) -> Result<BoundModule, NoMemory>
+        requires binder { IsBinder self.now }
+        requires there { at < length (setting_in self.now).modules }
+        requires sound { (owner : Module) → slice_get (setting_in self.now).modules at ≡ Some owner → IsSoundModule (setting_in self.now) self.now.places.now (sites owner) }
+        ensures { IfOk result (BindsModuleAt (setting_in self.now) self.now.places.now at) }
+    {
+        let Some(owner) = self.design.source.modules.get(at) else {
+            unreachable!()
+        };
+        let Some(scope) = self.design.scopes.get(at) else {
+            unreachable!()
+        };
+        let wires = Wires::of(alloc, scope)?;
+        let assigns = wires.assigns(alloc)?;
+        let instances = self.instances(alloc, &wires)?;
+        let (ports, wires) = wires.into_parts();
+        Ok(BoundModule {
+            name: Name::of(alloc, owner.name.as_str())?,
+            ports,
+            wires,
+            assigns,
+            instances,
+        })
+    }
+}
