@@ -1,0 +1,16 @@
+pub mod Unfolded
+pub mod Sizes
+pub mod Lists
+pub mod Linked
+pub mod Celled
+pub mod Pinned
+pub mod Pins
+pub mod Ends
+pub mod There
+pub mod Wholes
+pub mod Driven
+pub mod Resolved
+pub mod Distinct
+pub mod Few
+pub mod Answered
+pub mod OneCircuit

@@ -1,0 +1,6 @@
+pub mod Bits
+pub mod Paths
+pub mod Pieces
+pub mod Numbered
+pub mod Whole
+pub mod Answers
