@@ -1,0 +1,7 @@
+use Rattle.std.proofs.Common.{ap}
+use Rattle.bound_source.specs.declared.bound.BoundKind.{BoundKind}
+use Rattle.design_size.specs.Hierarchy.{module_of}
+use Rattle.flattener.proofs.solid.is_solid.Goals as goal
+
+pub bounds-sizes-at : goal.bounds-sizes-at
+bounds-sizes-at c = c.requires c.in-Module.at (ap (λ (k : BoundKind). module_of k) c.in-Module.is)

@@ -1,0 +1,12 @@
+pub mod Limits
+pub mod Refused
+pub mod Wiring
+pub mod Written
+pub mod Solid
+pub mod Walk
+pub mod Ends
+pub mod Found
+pub mod Begins
+pub mod Shape
+pub mod Gathered
+pub mod Sample

@@ -1,0 +1,20 @@
+-- The instances that hold a cell or a wire bit.
+use Rattle.std.specs.Prelude.{ℕ, Bool, true, cond, nat_lt, ◌||◌, List, [], ◌∷◌, slice_index_or}
+use Rattle.std.specs.List.{flat_map, enumerate_from}
+use Rattle.bound_source.specs.declared.bound.BoundKind.{BoundKind}
+use Rattle.bound_source.specs.declared.bound.BoundKind.TheVariants.{Module, Cell}
+use Rattle.bound_source.specs.declared.bound.BoundInstance.{BoundInstance}
+use Rattle.design_size.specs.declared.size.Size.{Size}
+use Rattle.design_size.specs.Rounds.{empty_size}
+
+-- a cell, or a module that holds a cell or a wire bit, where modules have these sizes
+abbrev pub is_solid : List Size → BoundKind → Bool
+is_solid sizes (Module at) = nat_lt 0 (slice_index_or sizes at empty_size).cells || nat_lt 0 (slice_index_or sizes at empty_size).bits
+is_solid sizes (Cell row) = true
+
+-- the places of the instances that hold something, in order
+abbrev pub solid_place : List Size → ℕ × BoundInstance → List ℕ
+solid_place sizes (n, instance) = cond (is_solid sizes instance.kind) (n ∷ []) []
+
+abbrev pub solid_places : List Size → List BoundInstance → List ℕ
+solid_places sizes instances = flat_map (solid_place sizes) (enumerate_from 0 instances)
