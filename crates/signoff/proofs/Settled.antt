@@ -1,10 +1,15 @@
 -- What follows of a run, clause by clause.
 use Rattle.std.proofs.Common.{◌≡◌, subst, ◌<◌, ◌≤◌, ◌⊎◌, inl, inr, ℕ, List, length, arith}
 use Rattle.std.specs.Prelude.{◌≢◌, Option, Some}
+use Rattle.std.proofs.lemmas.List.Elements.{All-contains}
 use Rattle.rsfq_ids.specs.Offence.{HasNoWindow}
 use Rattle.rsfq_ids.specs.Design.{Design}
 use Rattle.rsfq_ids.specs.declared.offence.Against.TheVariants as against
-use Rattle.wire_form.specs.declared.netlist.WireModule.{WireModule}
+use Rattle.rsfq_ids.specs.declared.id.PortId.{PortId}
+use Rattle.rsfq_ids.specs.declared.circuit.Flat.{Flat}
+use Rattle.flat_form.specs.Form.{IsOfForm, IsClockPort}
+use Rattle.wire_timing.specs.declared.WireDepth.{WireDepth}
+use Rattle.wire_timing.specs.Wires.{IsWireDepth}
 use Rattle.rsfq_outside.specs.declared.status.Status.{Status}
 use Rattle.rsfq_outside.specs.declared.status.Status.TheVariants.{Accepted, Rejected, Refused, Fault, Memory}
 use Rattle.rsfq_outside.specs.Causes.{Rose}
@@ -13,9 +18,10 @@ use Rattle.rsfq_outside.specs.Answers.{ExactlyWhere}
 use Rattle.rsfq_outside.specs.Reads.{long_line, IsWholeFile, IsTooLong}
 use Rattle.signoff.specs.declared.words.Times.{Times}
 use Rattle.signoff.specs.Words.{Asks}
-use Rattle.signoff.specs.Verdict.{IsVerdict, IsSignedOff, IsJudged, IsOfForm, HasWindow, timed_design}
-use Rattle.signoff.specs.Run.{most_bytes, FolderRun, SinkRun, IsReplied, IsDue, Runs, IfTold, IsTooLarge, HasDesign, HasReport, HasHeadline}
+use Rattle.signoff.specs.Verdict.{IsVerdict, IsSignedOff, IsJudged, IsTooDeep, IsWireCircuit, IsOfNoForm, IsShallow, IsDeep, HasWindow, timed_design}
+use Rattle.signoff.specs.Run.{most_bytes, FolderRun, SinkRun, IsReplied, IsDue, Runs, IfTold, IsTooLarge, IsRefusable, HasDesign, HasReport, HasRefusal, HasHeadline}
 use Rattle.signoff.proofs.Asked.{asked_once}
+use Rattle.signoff.proofs.Shown.{contained_at}
 
 -- a run that came to its end: what was due stands whole
 pub record IsWhole (folder : FolderRun) (words : List (List ℕ)) (status : Status) (sink : SinkRun) : Type 0 where
@@ -75,45 +81,117 @@ run_to folder words name times netlist status sink asks told m f (inr (inr whole
 abbrev pub Replies : List ℕ → Times → List ℕ → Status → List ℕ → Type 0
 Replies name times netlist status text = ((status ≡ Refused) × (most_bytes < length netlist) × (text ≡ long_line name)) ⊎ ((length netlist ≤ most_bytes) × IsVerdict times netlist status text)
 
-is_accepted : (name : List ℕ) (times : Times) (netlist : List ℕ) (status : Status) (text : List ℕ) → Replies name times netlist status text → status ≡ Accepted → HasDesign times netlist HasNoWindow
+is_accepted : (name : List ℕ) (times : Times) (netlist : List ℕ) (status : Status) (text : List ℕ) → Replies name times netlist status text → status ≡ Accepted →
+    HasDesign times netlist (λ design. HasNoWindow design × IsShallow design)
 is_accepted name times netlist status text (inl long) is = let e = long.0 in absurd (cc)
-is_accepted name times netlist status text (inr (fits, inl refused)) is = let e = refused.answer in absurd (cc)
-is_accepted name times netlist status text (inr (fits, inr signed)) is =
-    (fits, (signed.top, signed.of_form, elim signed.judged [ inl a ↦ a.no_window | inr r ↦ let e = r.answer in absurd (cc) ]))
+is_accepted name times netlist status text (inr (fits, inl unloaded)) is = let e = unloaded.answer in absurd (cc)
+is_accepted name times netlist status text (inr (fits, inr (inl formless))) is = let e = formless.answer in absurd (cc)
+is_accepted name times netlist status text (inr (fits, inr (inr signed))) is = elim signed.judged [
+  | inl a ↦ (fits, (signed.flat, signed.clock, signed.circuit, (a.no_window, a.shallow)))
+  | inr (inl r) ↦ let e = r.answer in absurd (cc)
+  | inr (inr t) ↦ let e = t.answer in absurd (cc)
+]
 
 is_rejected : (name : List ℕ) (times : Times) (netlist : List ℕ) (status : Status) (text : List ℕ) → Replies name times netlist status text → status ≡ Rejected → HasDesign times netlist HasWindow
 is_rejected name times netlist status text (inl long) is = let e = long.0 in absurd (cc)
-is_rejected name times netlist status text (inr (fits, inl refused)) is = let e = refused.answer in absurd (cc)
-is_rejected name times netlist status text (inr (fits, inr signed)) is =
-    (fits, (signed.top, signed.of_form, elim signed.judged [ inl a ↦ let e = a.answer in absurd (cc) | inr r ↦ (r.pin, r.pulse, against.Strobe r.number, r.first.here.exists) ]))
+is_rejected name times netlist status text (inr (fits, inl unloaded)) is = let e = unloaded.answer in absurd (cc)
+is_rejected name times netlist status text (inr (fits, inr (inl formless))) is = let e = formless.answer in absurd (cc)
+is_rejected name times netlist status text (inr (fits, inr (inr signed))) is = elim signed.judged [
+  | inl a ↦ let e = a.answer in absurd (cc)
+  | inr (inl r) ↦ (fits, (signed.flat, signed.clock, signed.circuit, (r.pin, r.pulse, against.Strobe r.number, r.first.here.exists)))
+  | inr (inr t) ↦ let e = t.answer in absurd (cc)
+]
 
--- a netlist of the form is judged by its design
-judged_so : (name : List ℕ) (times : Times) (netlist : List ℕ) (status : Status) (text : List ℕ) (top : WireModule) → length netlist ≤ most_bytes → IsOfForm netlist top → Replies name times netlist status text →
-    IsJudged (timed_design times top) status text
-judged_so name times netlist status text top fits form (inl long) = absurd (let more = long.1 in omega arith)
-judged_so name times netlist status text top fits form (inr (few, inl refused)) = absurd (refused.none top form)
-judged_so name times netlist status text top fits form (inr (few, inr signed)) = rw (signed.only top form.spelled) signed.judged
+-- an output that is too deep
+deep_of : (design : Design) (status : Status) (text : List ℕ) → IsTooDeep design status text → IsDeep design
+deep_of design status text t =
+    let line_is = All-contains (IsWireDepth design) t.depths t.first.found t.depths_are.each (contained_at t.depths t.place t.first.found t.first.there) in
+    (t.first.found.output, t.first.found.depth, (t.used, line_is.depth_is), t.first.deep)
 
-accepted_comes : (design : Design) (status : Status) (text : List ℕ) → IsJudged design status text → HasNoWindow design → status ≡ Accepted
-accepted_comes design status text (inl a) none = a.answer
-accepted_comes design status text (inr r) none = absurd (none r.pin r.pulse (against.Strobe r.number) r.first.here.exists)
+is_refused : (name : List ℕ) (times : Times) (netlist : List ℕ) (status : Status) (text : List ℕ) → Replies name times netlist status text → status ≡ Refused → IsRefusable times netlist
+is_refused name times netlist status text (inl long) is = inl long.1
+is_refused name times netlist status text (inr (fits, inl unloaded)) is = inr (inl (λ flat clock wires. unloaded.none flat wires.has))
+is_refused name times netlist status text (inr (fits, inr (inl formless))) is = inr (inl (λ flat clock wires. formless.none (subst IsOfForm (formless.only flat wires.has) wires.form)))
+is_refused name times netlist status text (inr (fits, inr (inr signed))) is = elim signed.judged [
+  | inl a ↦ let e = a.answer in absurd (cc)
+  | inr (inl r) ↦ let e = r.answer in absurd (cc)
+  | inr (inr t) ↦ inr (inr (fits, (signed.flat, signed.clock, signed.circuit, (t.no_window, deep_of (timed_design times signed.flat signed.clock) status text t))))
+]
+
+-- a netlist with a circuit of the form is judged by its design
+judged_so : (name : List ℕ) (times : Times) (netlist : List ℕ) (status : Status) (text : List ℕ) (flat : Flat) (clock : PortId) → length netlist ≤ most_bytes → IsWireCircuit netlist flat clock →
+    Replies name times netlist status text → IsJudged (timed_design times flat clock) status text
+judged_so name times netlist status text flat clock fits wires (inl long) = absurd (let more = long.1 in omega arith)
+judged_so name times netlist status text flat clock fits wires (inr (few, inl unloaded)) = absurd (unloaded.none flat wires.has)
+judged_so name times netlist status text flat clock fits wires (inr (few, inr (inl formless))) = absurd (formless.none (subst IsOfForm (formless.only flat wires.has) wires.form))
+judged_so name times netlist status text flat clock fits wires (inr (few, inr (inr signed))) =
+    let same = signed.only flat wires.has in
+    let clocks = signed.one_clock clock (subst (λ (f : Flat). IsClockPort f clock) same wires.clock_is) in
+    rw (same, clocks) signed.judged
+
+accepted_comes : (design : Design) (status : Status) (text : List ℕ) → IsJudged design status text → HasNoWindow design → IsShallow design → status ≡ Accepted
+accepted_comes design status text (inl a) none shallow = a.answer
+accepted_comes design status text (inr (inl r)) none shallow = absurd (none r.pin r.pulse (against.Strobe r.number) r.first.here.exists)
+accepted_comes design status text (inr (inr t)) none shallow =
+    let (output, depth, is, above) = deep_of design status text t in
+    absurd (let most = shallow output depth is in omega arith)
 
 rejected_comes : (design : Design) (status : Status) (text : List ℕ) → IsJudged design status text → HasWindow design → status ≡ Rejected
 rejected_comes design status text (inl a) (pin, pulse, held, exists) = absurd (a.no_window pin pulse held exists)
-rejected_comes design status text (inr r) some = r.answer
+rejected_comes design status text (inr (inl r)) some = r.answer
+rejected_comes design status text (inr (inr t)) (pin, pulse, held, exists) = absurd (t.no_window pin pulse held exists)
+
+deep_comes : (design : Design) (status : Status) (text : List ℕ) → IsJudged design status text → HasNoWindow design → IsDeep design → status ≡ Refused
+deep_comes design status text (inl a) none (output, depth, is, above) = absurd (let most = a.shallow output depth is in omega arith)
+deep_comes design status text (inr (inl r)) none deep = absurd (none r.pin r.pulse (against.Strobe r.number) r.first.here.exists)
+deep_comes design status text (inr (inr t)) none deep = t.answer
+
+large_comes : (name : List ℕ) (times : Times) (netlist : List ℕ) (status : Status) (text : List ℕ) → IsTooLarge netlist → Replies name times netlist status text → status ≡ Refused
+large_comes name times netlist status text more (inl long) = long.0
+large_comes name times netlist status text more (inr (fits, verdict)) = absurd (omega arith)
+
+formless_comes : (name : List ℕ) (times : Times) (netlist : List ℕ) (status : Status) (text : List ℕ) → IsOfNoForm netlist → Replies name times netlist status text → status ≡ Refused
+formless_comes name times netlist status text none (inl long) = long.0
+formless_comes name times netlist status text none (inr (fits, inl unloaded)) = unloaded.answer
+formless_comes name times netlist status text none (inr (fits, inr (inl formless))) = formless.answer
+formless_comes name times netlist status text none (inr (fits, inr (inr signed))) = absurd (none signed.flat signed.clock signed.circuit)
+
+refused_comes : (name : List ℕ) (times : Times) (netlist : List ℕ) (status : Status) (text : List ℕ) → Replies name times netlist status text → IsRefusable times netlist → status ≡ Refused
+refused_comes name times netlist status text replies (inl large) = large_comes name times netlist status text large replies
+refused_comes name times netlist status text replies (inr (inl none)) = formless_comes name times netlist status text none replies
+refused_comes name times netlist status text replies (inr (inr (fits, (flat, clock, wires, (none, deep))))) =
+    deep_comes (timed_design times flat clock) status text (judged_so name times netlist status text flat clock fits wires replies) none deep
 
 report_of : (name : List ℕ) (times : Times) (netlist : List ℕ) (status : Status) (text : List ℕ) → Replies name times netlist status text → (status ≡ Accepted) ⊎ (status ≡ Rejected) → IsSignedOff times netlist status text
 report_of name times netlist status text (inl long) is = let e = long.0 in absurd (elim is [ inl a ↦ cc | inr r ↦ cc ])
-report_of name times netlist status text (inr (fits, inl refused)) is = let e = refused.answer in absurd (elim is [ inl a ↦ cc | inr r ↦ cc ])
-report_of name times netlist status text (inr (fits, inr signed)) is = signed
+report_of name times netlist status text (inr (fits, inl unloaded)) is = let e = unloaded.answer in absurd (elim is [ inl a ↦ cc | inr r ↦ cc ])
+report_of name times netlist status text (inr (fits, inr (inl formless))) is = let e = formless.answer in absurd (elim is [ inl a ↦ cc | inr r ↦ cc ])
+report_of name times netlist status text (inr (fits, inr (inr signed))) is = signed
+
+-- a netlist that is refused and not too long has its verdict
+refusal_of : (name : List ℕ) (times : Times) (netlist : List ℕ) (status : Status) (text : List ℕ) → Replies name times netlist status text → ¬ IsTooLarge netlist → IsVerdict times netlist status text
+refusal_of name times netlist status text (inl long) fits = absurd (fits long.1)
+refusal_of name times netlist status text (inr (few, verdict)) fits = verdict
 
 -- an accepted netlist has its headline
 headline_of : (name : List ℕ) (times : Times) (netlist : List ℕ) (status : Status) (text : List ℕ) (sink : SinkRun) → Replies name times netlist status text → Grows sink.before sink.now text → status ≡ Accepted → HasHeadline times netlist sink
 headline_of name times netlist status text sink (inl long) grown is = let e = long.0 in absurd (cc)
-headline_of name times netlist status text sink (inr (fits, inl refused)) grown is = let e = refused.answer in absurd (cc)
-headline_of name times netlist status text sink (inr (fits, inr signed)) grown is = elim signed.judged [
-  | inl a ↦ record { top = signed.top; of_form = signed.of_form; only = signed.only; lines = a.depths; outputs = a.outputs; depths = a.depths_are; runs = a.runs; printed = subst (Grows sink.before sink.now) a.printed grown }
-  | inr r ↦ let e = r.answer in absurd (cc)
+headline_of name times netlist status text sink (inr (fits, inl unloaded)) grown is = let e = unloaded.answer in absurd (cc)
+headline_of name times netlist status text sink (inr (fits, inr (inl formless))) grown is = let e = formless.answer in absurd (cc)
+headline_of name times netlist status text sink (inr (fits, inr (inr signed))) grown is = elim signed.judged [
+  | inl a ↦ record {
+    flat = signed.flat;
+    clock = signed.clock;
+    circuit = signed.circuit;
+    only = signed.only;
+    one_clock = signed.one_clock;
+    lines = a.depths;
+    depths = a.depths_are;
+    runs = a.runs;
+    printed = subst (Grows sink.before sink.now) a.printed grown;
+  }
+  | inr (inl r) ↦ let e = r.answer in absurd (cc)
+  | inr (inr t) ↦ let e = t.answer in absurd (cc)
 ]
 
 long_of : (name : List ℕ) (times : Times) (netlist : List ℕ) (status : Status) (text : List ℕ) → Replies name times netlist status text → most_bytes < length netlist → text ≡ long_line name
@@ -136,12 +214,13 @@ sound_stands folder words status sink runs m f = elim (settle folder words statu
 ]
 
 pub accepted_exact : (folder : FolderRun) (words : List (List ℕ)) (status : Status) (sink : SinkRun) → Runs folder words status sink →
-    IfTold folder.told words (λ name times netlist. ExactlyWhere (HasDesign times netlist HasNoWindow) Accepted status)
+    IfTold folder.told words (λ name times netlist. ExactlyWhere (HasDesign times netlist (λ design. HasNoWindow design × IsShallow design)) Accepted status)
 accepted_exact folder words status sink runs name times netlist asks told =
     let end = λ (m : status ≢ Memory) (f : status ≢ Fault). run_to folder words name times netlist status sink asks told m f (settle folder words status sink runs) in
     record {
       only = λ is. let r = end (λ e. cc) (λ e. cc) in is_accepted name times netlist status r.text r.reply is;
-      comes = λ has m f. let r = end m f in accepted_comes _ status r.text (judged_so name times netlist status r.text has.1.0 has.0 has.1.1 r.reply) has.1.2;
+      comes = λ (fits, (flat, clock, wires, (none, shallow))) m f.
+          let r = end m f in accepted_comes _ status r.text (judged_so name times netlist status r.text flat clock fits wires r.reply) none shallow;
     }
 
 pub rejected_exact : (folder : FolderRun) (words : List (List ℕ)) (status : Status) (sink : SinkRun) → Runs folder words status sink →
@@ -150,8 +229,23 @@ rejected_exact folder words status sink runs name times netlist asks told =
     let end = λ (m : status ≢ Memory) (f : status ≢ Fault). run_to folder words name times netlist status sink asks told m f (settle folder words status sink runs) in
     record {
       only = λ is. let r = end (λ e. cc) (λ e. cc) in is_rejected name times netlist status r.text r.reply is;
-      comes = λ has m f. let r = end m f in rejected_comes _ status r.text (judged_so name times netlist status r.text has.1.0 has.0 has.1.1 r.reply) has.1.2;
+      comes = λ (fits, (flat, clock, wires, some)) m f. let r = end m f in rejected_comes _ status r.text (judged_so name times netlist status r.text flat clock fits wires r.reply) some;
     }
+
+pub refused_exact : (folder : FolderRun) (words : List (List ℕ)) (status : Status) (sink : SinkRun) → Runs folder words status sink →
+    IfTold folder.told words (λ name times netlist. ExactlyWhere (IsRefusable times netlist) Refused status)
+refused_exact folder words status sink runs name times netlist asks told =
+    let end = λ (m : status ≢ Memory) (f : status ≢ Fault). run_to folder words name times netlist status sink asks told m f (settle folder words status sink runs) in
+    record {
+      only = λ is. let r = end (λ e. cc) (λ e. cc) in is_refused name times netlist status r.text r.reply is;
+      comes = λ has m f. let r = end m f in refused_comes name times netlist status r.text r.reply has;
+    }
+
+pub refusal_stands : (folder : FolderRun) (words : List (List ℕ)) (status : Status) (sink : SinkRun) → Runs folder words status sink →
+    IfTold folder.told words (λ name times netlist. ¬ IsTooLarge netlist → status ≡ Refused → HasRefusal times netlist sink)
+refusal_stands folder words status sink runs name times netlist asks told fits is =
+    let r = run_to folder words name times netlist status sink asks told (λ e. cc) (λ e. cc) (settle folder words status sink runs) in
+    (r.text, subst (λ (s : Status). IsVerdict times netlist s r.text) is (refusal_of name times netlist status r.text r.reply fits), r.grown)
 
 pub long_stands : (folder : FolderRun) (words : List (List ℕ)) (status : Status) (sink : SinkRun) → Runs folder words status sink →
     IfTold folder.told words (λ name times netlist. IsTooLarge netlist → status ≡ Refused → Grows sink.before sink.now (long_line name))

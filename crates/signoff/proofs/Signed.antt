@@ -1,5 +1,5 @@
 -- What the timing of wires finds, as the laws of pulses want it, and what they say of every run.
-use Rattle.std.proofs.Common.{◌≡◌, ◌∙◌, ap, sym, subst, ◌+◌, ℕ, zero, suc, true, List, [], ◌∷◌, get_or, arith, refl}
+use Rattle.std.proofs.Common.{◌≡◌, ◌∙◌, ap, sym, subst, ◌+◌, ℕ, zero, suc, Bool, true, false, List, [], ◌∷◌, ◌++◌, get_or, ◌⊎◌, inl, inr, arith, refl}
 use Rattle.std.specs.Option.{option_and_then}
 use Rattle.std.specs.Prelude.{Option, Some, None, slice_get, cond, map, pos}
 use Rattle.std.specs.List.{All, Contains, flat_map, enumerate_from}
@@ -9,7 +9,10 @@ use Rattle.rsfq_ids.specs.declared.circuit.FlatCell.{FlatCell}
 use Rattle.rsfq_ids.specs.declared.circuit.PortBit.{PortBit}
 use Rattle.rsfq_ids.specs.declared.circuit.Pin.{Pin}
 use Rattle.rsfq_ids.specs.declared.circuit.Strobe.{Strobe}
+use Rattle.rsfq_ids.specs.declared.circuit.Bench.{Bench}
+use Rattle.rsfq_ids.specs.declared.circuit.PortUse.{PortUse}
 use Rattle.rsfq_ids.specs.declared.circuit.PortUse.TheVariants as port_use
+use Rattle.rsfq_ids.specs.WellFormed.{FitsUse}
 use Rattle.rsfq_ids.specs.declared.circuit.Reader.TheVariants as reader
 use Rattle.rsfq_ids.specs.Design.{Design}
 use Rattle.rsfq_ids.specs.Circuit.{IsOf}
@@ -21,13 +24,9 @@ use Rattle.rsfq_ids.specs.Signed.{HasAllDepths}
 use Rattle.rsfq_ids.specs.Order.{IsOrder}
 use Rattle.pulse_laws.specs.Wires.{IsWired, IsWireFrom, AreEnds, depths_of, WiresAreSigned}
 use Rattle.pulse_laws.specs.Statements.{OrderIsFree}
-use Rattle.wire_form.specs.declared.netlist.WireModule.{WireModule}
-use Rattle.wire_form.specs.Wires.{IsTimeable}
-use Rattle.wire_form.specs.Circuit.{jtl_row}
+use Rattle.flat_form.specs.Bench.{IsTimeable}
 use Rattle.wire_timing.specs.declared.WireDepth.{WireDepth}
 use Rattle.wire_timing.specs.Wires.{outputs_of, IsWireDepth}
-use Rattle.signoff.specs.declared.words.Times.{Times}
-use Rattle.signoff.specs.Verdict.{timed_design}
 use Rattle.signoff.specs.Headline.{ShowsInput, EveryRunShows}
 use Rattle.signoff.proofs.Shown.{item_beside}
 
@@ -60,30 +59,52 @@ output_listed start (first ∷ ports) (suc i) port at is =
     subst (Contains (flat_map (λ (n, port). cond port.output (n ∷ []) []) (enumerate_from start (first ∷ ports)))) (omega arith)
     (Contains-append_right (cond first.output (start ∷ []) []) (flat_map (λ (n, port). cond port.output (n ∷ []) []) (enumerate_from (start + 1) ports)) (start + 1 + i) (output_listed (start + 1) ports i port at is))
 
+-- what is in a list behind one item, if it is there, is the item or in the list
+first_or_later : (b : Bool) (start output : ℕ) (later : List ℕ) → Contains (cond b (start ∷ []) [] ++ later) output → ((b ≡ true) × (output ≡ start)) ⊎ Contains later output
+first_or_later false start output later at = inr at
+first_or_later true start output later (zero, below, same) = inl (refl, sym same)
+first_or_later true start output later (suc k, below, same) = inr (k, omega arith, same)
+
+-- a number among those of the outputs is that of an output bit
+listed_output : (start : ℕ) (ports : List PortBit) (output : ℕ) → Contains (flat_map (λ (n, port). cond port.output (n ∷ []) []) (enumerate_from start ports)) output →
+    (i : ℕ) × (port : PortBit) × (output ≡ start + i) × (slice_get ports i ≡ Some port) × (port.output ≡ true)
+listed_output start [] output at = absurd (let below = at.1 in omega arith)
+listed_output start (first ∷ ports) output at =
+    elim (first_or_later first.output start output (flat_map (λ (n, port). cond port.output (n ∷ []) []) (enumerate_from (start + 1) ports)) at) [
+      | inl here ↦ (0, first, omega (arith, here.1), refl, here.0)
+      | inr later ↦ (let (i, port, is, found, out) = listed_output (start + 1) ports output later in (suc i, port, omega (arith, is), found, out))
+    ]
+
+-- an output bit is read at a strobe
+strobed : (bench : Bench) (i : ℕ) (port : PortBit) (used : PortUse) → FitsUse bench i port used → port.output ≡ true → slice_get bench.uses i ≡ Some used → (strobe : Strobe) × IsUsed bench i (port_use.Strobed strobe)
+strobed bench i port port_use.Clock fit out at = absurd (let in_is = fit.1 in cc)
+strobed bench i port (port_use.Arrival low high) fit out at = absurd (let in_is = fit.1 in cc)
+strobed bench i port (port_use.Strobed strobe) fit out at = (strobe, at)
+
+-- an output that has a line is read at a strobe
+pub output_used : (design : Design) (lines : List WireDepth) (line : WireDepth) → IsSetUp design → map (λ (line : WireDepth). line.output) lines ≡ outputs_of design.flat → Contains lines line →
+    (strobe : Strobe) × IsUsed design.bench line.output (port_use.Strobed strobe)
+output_used design lines line set_up outputs at =
+    let listed : Contains (outputs_of design.flat) line.output = subst (λ (xs : List ℕ). Contains xs line.output) outputs (map_contains (λ (line : WireDepth). line.output) lines line at) in
+    let (i, port, is, found, out) = listed_output 0 design.flat.ports line.output listed in
+    let (used, at_use) = item_beside design.bench.uses design.flat.ports i port (sym set_up.bench_fits.ports) found in
+    let fit = set_up.bench_fits.uses i port used found at_use in
+    let (strobe, has) = strobed design.bench i port used fit out at_use in
+    (strobe, subst (λ (n : ℕ). IsUsed design.bench n (port_use.Strobed strobe)) (let same : line.output ≡ i = omega (arith, is) in sym same) has)
+
 -- ---- the design
 
--- the one row of the table has no dead time
-one_row : (n : ℕ) (row : CellRow) → slice_get (jtl_row ∷ []) n ≡ Some row → row.dead ≡ pos 0
-one_row zero row is = (let same : jtl_row ≡ row = cc in ap (λ (r : CellRow). r.dead) (sym same))
-one_row (suc n) row is = absurd (cc)
-
-row_of_cell : (found : Option FlatCell) (row : CellRow) → option_and_then (λ c. slice_get (jtl_row ∷ []) c.row) found ≡ Some row → row.dead ≡ pos 0
-row_of_cell None row is = absurd (cc)
-row_of_cell (Some cell) row is = one_row cell.row row is
-
-pub no_dead_time : (times : Times) (top : WireModule) (cell : ℕ) (row : CellRow) → IsOf (timed_design times top) cell row → row.dead ≡ pos 0
-no_dead_time times top cell row of = row_of_cell (slice_get (timed_design times top).flat.cells cell) row of
-
 -- what may be timed is wired
-wired : (design : Design) (order : List ℕ) → IsTimeable design order → ((cell : ℕ) (row : CellRow) → IsOf design cell row → row.dead ≡ pos 0) → IsWired design
-wired design order timeable no_dead = record { set_up = timeable.set_up; jtls = timeable.jtls; no_dead_time = no_dead; clock_unread = timeable.clock; fanout = timeable.fanout }
+wired : (design : Design) (order : List ℕ) → IsTimeable design order → IsWired design
+wired design order timeable =
+    record { set_up = timeable.set_up; jtls = timeable.jtls; no_dead_time = timeable.no_dead_time; clock_unread = timeable.clock_unread; fanout = timeable.fanout }
 
 -- an output with its depth and its input
 abbrev end_of : WireDepth → ℕ × ℕ × ℕ
 end_of line = (line.output, line.depth, line.source)
 
 -- a port bit with a strobe has a line
-line_of : (design : Design) (lines : List WireDepth) → IsSetUp design → map (λ (line : WireDepth). line.output) lines ≡ outputs_of design.flat → (port : ℕ) (strobe : Strobe) → IsUsed design.bench port (port_use.Strobed strobe) →
+pub line_of : (design : Design) (lines : List WireDepth) → IsSetUp design → map (λ (line : WireDepth). line.output) lines ≡ outputs_of design.flat → (port : ℕ) (strobe : Strobe) → IsUsed design.bench port (port_use.Strobed strobe) →
     (line : WireDepth) × Contains lines line × (line.output ≡ port)
 line_of design lines set_up outputs port strobe used =
     let (bit, at) = item_beside design.flat.ports design.bench.uses port (port_use.Strobed strobe) set_up.bench_fits.ports used in
@@ -127,9 +148,9 @@ module _ (design : Design) (order : List ℕ) (lines : List WireDepth) (timeable
       let (line, listed, same) = contained_map end_of lines (port, depth, source) at in
       end_is line port depth source (All-contains (IsWireDepth design) lines line depths listed) same
 
-  pub every_run_shows : WiresAreSigned → OrderIsFree → ((cell : ℕ) (row : CellRow) → IsOf design cell row → row.dead ≡ pos 0) → HasNoWindow design → EveryRunShows design lines
-  every_run_shows wires_are_signed order_is_free no_dead no_window run words any =
-      let signed = wires_are_signed design order (map end_of lines) (wired design order timeable no_dead) timeable.ordered no_window all_depths are_ends in
+  pub every_run_shows : WiresAreSigned → OrderIsFree → HasNoWindow design → EveryRunShows design lines
+  every_run_shows wires_are_signed order_is_free no_window run words any =
+      let signed = wires_are_signed design order (map end_of lines) (wired design order timeable) timeable.ordered no_window all_depths are_ends in
       let kept = signed.runs (record run { pulses = any.ordered }) words any.is_run in
       let free = order_is_free design run any in
       let shows : (line : WireDepth) → Contains lines line → ShowsInput design run line =

@@ -2,4 +2,5 @@ pub mod Words
 pub mod Text
 pub mod Headline
 pub mod Verdict
+pub mod Answers
 pub mod Run

@@ -2,10 +2,10 @@
 use Rattle.std.specs.Prelude.{◌≡◌, ◌⊎◌, ℕ, ◌<◌, ◌≤◌, List, length, map, Option, Some}
 use Rattle.std.specs.List.{All}
 use Rattle.rsfq_ids.specs.Design.{Design}
-use Rattle.wire_form.specs.declared.netlist.WireModule.{WireModule}
-use Rattle.wire_form.specs.Spells.{Spells}
+use Rattle.rsfq_ids.specs.Offence.{HasNoWindow}
+use Rattle.rsfq_ids.specs.declared.id.PortId.{PortId}
+use Rattle.rsfq_ids.specs.declared.circuit.Flat.{Flat}
 use Rattle.wire_timing.specs.declared.WireDepth.{WireDepth}
-use Rattle.wire_timing.specs.Wires.{outputs_of, IsWireDepth}
 use Rattle.rsfq_outside.specs.declared.fault.CallKind.TheVariants.{Read}
 use Rattle.rsfq_outside.specs.declared.status.Status.{Status}
 use Rattle.rsfq_outside.specs.declared.status.Status.TheVariants.{Words, Refused, Fault, Memory}
@@ -17,7 +17,8 @@ use Rattle.signoff.specs.declared.words.Times.{Times}
 use Rattle.signoff.specs.Words.{Asks, AsksNothing}
 use Rattle.signoff.specs.Text.{usage_text, accepted_text}
 use Rattle.signoff.specs.Headline.{EveryRunShows}
-use Rattle.signoff.specs.Verdict.{IsVerdict, IsOfForm, IsSignedOff, timed_design}
+use Rattle.flat_form.specs.Form.{IsClockPort}
+use Rattle.signoff.specs.Verdict.{IsVerdict, HasCircuit, IsWireCircuit, IsOfNoForm, IsSignedOff, IsDeep, AreDepths, timed_design}
 
 -- the most bytes of a netlist: 16 MiB
 abbrev pub most_bytes : ℕ
@@ -94,9 +95,13 @@ IfTold told words Says = (name : List ℕ) (times : Times) (netlist : List ℕ) 
 abbrev pub IsTooLarge : List ℕ → Type 0
 IsTooLarge netlist = most_bytes < length netlist
 
--- the netlist is of the form, and what is said holds of its design
+-- the netlist has a circuit of the form, and what is said holds of its design
 abbrev pub HasDesign : Times → List ℕ → (Design → Type 0) → Type 0
-HasDesign times netlist Says = (length netlist ≤ most_bytes) × ((top : WireModule) × IsOfForm netlist top × Says (timed_design times top))
+HasDesign times netlist Says = (length netlist ≤ most_bytes) × ((flat : Flat) × (clock : PortId) × IsWireCircuit netlist flat clock × Says (timed_design times flat clock))
+
+-- the netlist is refused: it is too large, has no circuit of the form, or its circuit has no window offence and is too deep
+abbrev pub IsRefusable : Times → List ℕ → Type 0
+IsRefusable times netlist = IsTooLarge netlist ⊎ (IsOfNoForm netlist ⊎ HasDesign times netlist (λ design. HasNoWindow design × IsDeep design))
 
 -- a read of the netlist that the words name
 abbrev pub IsOwnRead : List (List ℕ) → Call → Type 0
@@ -112,15 +117,20 @@ HasFaultCause folder words sink =
 abbrev pub HasReport : Times → List ℕ → Status → SinkRun → Type 0
 HasReport times netlist status sink = (text : List ℕ) × IsSignedOff times netlist status text × Grows sink.before sink.now text
 
--- The headline. The netlist spells one module, which is of the form. The report has a line for each output bit, in port order,
--- with its depth and the data input at the other end of its wire. And every run of the module's design, at the times that were
--- asked for, is clean, and each line of the report tells the truth of it.
+-- the line of a netlist that is refused stands whole, and what it says is so
+abbrev pub HasRefusal : Times → List ℕ → SinkRun → Type 0
+HasRefusal times netlist sink = (text : List ℕ) × IsVerdict times netlist Refused text × Grows sink.before sink.now text
+
+-- The headline. The netlist has one circuit, which is of the form, and one clock. The report has a line for each output bit, in port
+-- order, with its depth and the data input at the other end of its wire. And every run of the circuit, at the times that were asked
+-- for, is clean, and each line of the report tells the truth of it.
 pub record HasHeadline (times : Times) (netlist : List ℕ) (sink : SinkRun) : Type 0 where
-  pub top : WireModule
-  pub of_form : IsOfForm netlist top
-  pub only : (other : WireModule) → Spells netlist other → other ≡ top
+  pub flat : Flat
+  pub clock : PortId
+  pub circuit : IsWireCircuit netlist flat clock
+  pub only : (other : Flat) → HasCircuit netlist other → other ≡ flat
+  pub one_clock : (port : PortId) → IsClockPort flat port → port ≡ clock
   pub lines : List WireDepth
-  pub outputs : map (λ line. line.output) lines ≡ outputs_of (timed_design times top).flat
-  pub depths : All (IsWireDepth (timed_design times top)) lines
-  pub runs : EveryRunShows (timed_design times top) lines
-  pub printed : Grows sink.before sink.now (accepted_text (timed_design times top).flat lines)
+  pub depths : AreDepths (timed_design times flat clock) lines
+  pub runs : EveryRunShows (timed_design times flat clock) lines
+  pub printed : Grows sink.before sink.now (accepted_text flat lines)

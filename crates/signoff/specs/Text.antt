@@ -36,9 +36,13 @@ net_name design (arc.Through cell pin out) = cell_name design.flat cell ++ codes
 
 -- ---- an accepted netlist: for each output its depth, and the input at the other end of its wire
 
+-- an output and its depth
+abbrev pub output_depth : Flat → WireDepth → List ℕ
+output_depth flat found = port_name flat found.output ++ codes " " ++ decimal found.depth
+
 abbrev pub depth_line : Flat → WireDepth → List ℕ
 depth_line flat found =
-    codes "depth " ++ port_name flat found.output ++ codes " " ++ decimal found.depth ++ codes " from " ++ port_name flat found.source ++ codes "\n"
+    codes "depth " ++ output_depth flat found ++ codes " from " ++ port_name flat found.source ++ codes "\n"
 
 abbrev pub accepted_text : Flat → List WireDepth → List ℕ
 accepted_text flat depths = codes "accepted\n" ++ flat_map (depth_line flat) depths
@@ -89,3 +93,7 @@ usage_text = codes "usage: rsfq_signoff NETLIST PERIOD LOW HIGH\n"
 
 abbrev pub form_text : List ℕ
 form_text = codes "refused form\n"
+
+-- an output that is too deep
+abbrev pub stages_text : Flat → WireDepth → List ℕ
+stages_text flat found = codes "refused limit stages " ++ output_depth flat found ++ codes "\n"

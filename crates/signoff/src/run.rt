@@ -5,9 +5,9 @@ ghost use Rattle.rsfq_outside.specs.Answers.{ExactlyWhere};
 ghost use Rattle.rsfq_outside.specs.Reads.{long_line};
 ghost use Rattle.rsfq_outside.specs.Told.{Grows};
 ghost use Rattle.signoff.specs.Words.{AsksNothing, texts};
-ghost use Rattle.signoff.specs.Text.{usage_text, form_text};
-ghost use Rattle.signoff.specs.Verdict.{IsOfNoForm, HasWindow};
-ghost use Rattle.signoff.specs.Run.{IsDue, Runs, folder_run, sink_run, IfTold, IsTooLarge, HasDesign, HasFaultCause, HasReport, HasHeadline};
+ghost use Rattle.signoff.specs.Text.{usage_text};
+ghost use Rattle.signoff.specs.Verdict.{HasWindow, IsShallow};
+ghost use Rattle.signoff.specs.Run.{IsDue, Runs, folder_run, sink_run, IfTold, IsTooLarge, IsRefusable, HasDesign, HasRefusal, HasFaultCause, HasReport, HasHeadline};
 
 use crate::verdict::verdict;
 use crate::words::read_words;
@@ -42,8 +42,10 @@ fn prepare<F: Folder>(alloc: Global, words: &[String], folder: &mut F) -> Result
 /// `Accepted` with the depth of each output and the input at the other end of its wire. Then every run is clean, whatever the
 /// words, the number of clock pulses and the delay of each pulse, and the output's bit `j + depth` is the bit of word `j` at that
 /// input. `Rejected` with the first pulse that may come in the zone around a strobe, `Words` with the usage line, or `Refused` where
-/// the netlist is longer than 16 MiB or not of the form. `Fault` where the folder fails at the read, with the line that says so, or
-/// where the sink fails. `Memory` where memory is wanting, and then nothing was written.
+/// the netlist is longer than 16 MiB, has no circuit (with the first stage that refuses it: its lexemes, its grammar, its names and
+/// widths, its drivers, a limit), where its circuit is not of the form, or an output is deeper than 1,000,000. `Fault` where the
+/// folder fails at the read, with the line that says so, or where the sink fails. `Memory` where memory is wanting, and then nothing
+/// was written.
 pub fn sign_off_run<F: Folder, S: Sink>(
     alloc: Global,
     words: &[String],
@@ -55,8 +57,8 @@ pub fn sign_off_run<F: Folder, S: Sink>(
 
     // When each answer comes. Those on the netlist speak where the folder tells it.
     ensures words { ExactlyWhere (AsksNothing (texts words.now)) Status.Words result }
-    ensures refused { IfTold (F.told folder.old) (texts words.now) (λ name times netlist. ExactlyWhere (IsTooLarge netlist ⊎ IsOfNoForm netlist) Status.Refused result) }
-    ensures accepted { IfTold (F.told folder.old) (texts words.now) (λ name times netlist. ExactlyWhere (HasDesign times netlist HasNoWindow) Status.Accepted result) }
+    ensures refused { IfTold (F.told folder.old) (texts words.now) (λ name times netlist. ExactlyWhere (IsRefusable times netlist) Status.Refused result) }
+    ensures accepted { IfTold (F.told folder.old) (texts words.now) (λ name times netlist. ExactlyWhere (HasDesign times netlist (λ design. HasNoWindow design × IsShallow design)) Status.Accepted result) }
     ensures rejected { IfTold (F.told folder.old) (texts words.now) (λ name times netlist. ExactlyWhere (HasDesign times netlist HasWindow) Status.Rejected result) }
     ensures fault { result ≡ Status.Fault → HasFaultCause (folder_run (F.told folder.old) (F.faults folder.old) (F.faults folder.new) (F.blamed folder.new)) (texts words.now)
         (sink_run (S.written out.old) (S.written out.new) (S.faults out.old) (S.faults out.new)) }
@@ -67,12 +69,13 @@ pub fn sign_off_run<F: Folder, S: Sink>(
     // What stands on the sink. At a fault of the sink it is a prefix of what was due, as `answer` says.
     ensures usage { result ≡ Status.Words → Grows (S.written out.old) (S.written out.new) usage_text }
     ensures long { IfTold (F.told folder.old) (texts words.now) (λ name times netlist. IsTooLarge netlist → result ≡ Status.Refused → Grows (S.written out.old) (S.written out.new) (long_line name)) }
-    ensures form { IfTold (F.told folder.old) (texts words.now) (λ name times netlist. ¬ IsTooLarge netlist → result ≡ Status.Refused → Grows (S.written out.old) (S.written out.new) form_text) }
+    ensures refusal { IfTold (F.told folder.old) (texts words.now) (λ name times netlist. ¬ IsTooLarge netlist → result ≡ Status.Refused →
+        HasRefusal times netlist (sink_run (S.written out.old) (S.written out.new) (S.faults out.old) (S.faults out.new))) }
     ensures report { IfTold (F.told folder.old) (texts words.now) (λ name times netlist. (result ≡ Status.Accepted) ⊎ (result ≡ Status.Rejected) →
         HasReport times netlist result (sink_run (S.written out.old) (S.written out.new) (S.faults out.old) (S.faults out.new))) }
     ensures memory { result ≡ Status.Memory → S.written out.new ≡ S.written out.old }
 
-    // What Accepted means for every run of the netlist's design.
+    // What Accepted means for every run of the netlist's circuit.
     ensures headline { IfTold (F.told folder.old) (texts words.now) (λ name times netlist. result ≡ Status.Accepted →
         HasHeadline times netlist (sink_run (S.written out.old) (S.written out.new) (S.faults out.old) (S.faults out.new))) }
 

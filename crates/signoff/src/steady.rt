@@ -3,8 +3,8 @@ ghost use Rattle.std.specs.Prelude.{◌≡◌, ◌≢◌, ◌⊎◌, Some};
 ghost use Rattle.rsfq_ids.specs.Offence.{HasNoWindow};
 ghost use Rattle.rsfq_outside.specs.Answers.{ExactlyWhere};
 ghost use Rattle.signoff.specs.Words.{texts, AsksNothing};
-ghost use Rattle.signoff.specs.Verdict.{IsOfNoForm, HasWindow};
-ghost use Rattle.signoff.specs.Run.{IfTold, IsTooLarge, HasDesign};
+ghost use Rattle.signoff.specs.Verdict.{HasWindow, IsShallow};
+ghost use Rattle.signoff.specs.Run.{IfTold, IsRefusable, HasDesign};
 
 use crate::run::sign_off_run;
 use rsfq_outside::{Status, SteadyFolder, SteadySink};
@@ -17,9 +17,9 @@ pub fn sign_off_status(alloc: Global, words: &[String], folder: &mut SteadyFolde
 
     // When each answer comes, memory apart.
     ensures words { ExactlyWhere (AsksNothing (texts words.now)) Status.Words result }
-    ensures accepted { IfTold (Some folder.old) (texts words.now) (λ name times netlist. ExactlyWhere (HasDesign times netlist HasNoWindow) Status.Accepted result) }
+    ensures accepted { IfTold (Some folder.old) (texts words.now) (λ name times netlist. ExactlyWhere (HasDesign times netlist (λ design. HasNoWindow design × IsShallow design)) Status.Accepted result) }
     ensures rejected { IfTold (Some folder.old) (texts words.now) (λ name times netlist. ExactlyWhere (HasDesign times netlist HasWindow) Status.Rejected result) }
-    ensures refused { IfTold (Some folder.old) (texts words.now) (λ name times netlist. ExactlyWhere (IsTooLarge netlist ⊎ IsOfNoForm netlist) Status.Refused result) }
+    ensures refused { IfTold (Some folder.old) (texts words.now) (λ name times netlist. ExactlyWhere (IsRefusable times netlist) Status.Refused result) }
 
     ensures folder { folder.new ≡ folder.old }
 {

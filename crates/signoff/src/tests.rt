@@ -57,7 +57,7 @@ fn rows_of_the_sign_off(rt: HostRuntime) -> Result<(), Fail> {
         (
             &["gate.v", "20000", "4000", "6000"],
             Status::Refused,
-            b"refused form\n",
+            b"refused bind no module DFF\n",
         ),
         (
             &["none.v", "20000", "4000", "6000"],
@@ -98,11 +98,19 @@ fn rows_of_the_sign_off(rt: HostRuntime) -> Result<(), Fail> {
     Ok(())
 }
 
+// As a synthesis tool prints a netlist: attributes, escaped names, ports declared again as wires, concatenations on the left.
+const PRINTED: &[u8] =
+    b"(* src = \"top.v:1\" *)\nmodule top(clk, a, y);\n  input clk;\n  wire clk;\n  input [1:0] a;\n  wire [1:0] a;\n  output [1:0] y;\n  wire [1:0] y;\n  wire \\t.1 ;\n  (* keep = 1 *)\n  JTL \\j[0] (\n    .a(a[0]),\n    .q(\\t.1 )\n  );\n  JTL j1 (.a(a[1]), .q(u));\n  assign { y[0], y[1] } = { \\t.1 , u };\nendmodule\n";
+
+// A JTL in a module in a module.
+const NESTED: &[u8] =
+    b"module low(p, q); input p; output q; JTL j(p, q); endmodule\nmodule mid(input p, output q); low t(.q(q), .p(p)); endmodule\nmodule top(input clk, input a, output y); mid s(a, y); endmodule\n";
+
 // Each row: a netlist, the numbers, and the answer.
 #[test]
-fn rows_of_the_form(rt: HostRuntime) -> Result<(), Fail> {
+fn rows_of_netlists(rt: HostRuntime) -> Result<(), Fail> {
     let alloc = rt.alloc();
-    let rows: [(&[u8], [&str; 3], Status, &[u8]); 15] = [
+    let rows: [(&[u8], [&str; 3], Status, &[u8]); 39] = [
         (CHAIN, ["20000", "4000", "6000"], Status::Accepted, ACCEPTED),
         (
             CHAIN,
@@ -127,6 +135,98 @@ fn rows_of_the_form(rt: HostRuntime) -> Result<(), Fail> {
             ["20000", "4000", "16000"],
             Status::Rejected,
             b"rejected window\nat z\nzone 1 1\npick b 0 20000\narc b 16000\narc k0.q 2000\narc k1.q 2000\nstrobe 1 20000\ndifference 0\n",
+        ),
+        // A vector that is crossed.
+        (
+            b"module top(input clk, input [0:1] a, output [1:0] y); JTL j0(.a(a[1]), .q(y[0])); JTL j1(.a(a[0]), .q(y[1])); endmodule",
+            ["20000", "4000", "6000"],
+            Status::Accepted,
+            b"accepted\ndepth y[0] 1 from a[1]\ndepth y[1] 1 from a[0]\n",
+        ),
+        // An input straight to an output, too deep, at the limit, and where a window comes first.
+        (
+            b"module top(input clk, input a, output y); assign y = a; endmodule",
+            ["2", "999999999", "999999999"],
+            Status::Refused,
+            b"refused limit stages y 500000000\n",
+        ),
+        (
+            b"module top(input clk, input a, output y); assign y = a; endmodule",
+            ["2", "1999999", "1999999"],
+            Status::Accepted,
+            b"accepted\ndepth y 1000000 from a\n",
+        ),
+        (
+            b"module top(input clk, input a, output y); assign y = a; endmodule",
+            ["2", "1999999", "2000000"],
+            Status::Rejected,
+            b"rejected window\nat y\nzone 1 1\npick a 0 2000000\narc a 2000000\nstrobe 1000000 2000000\ndifference 0\n",
+        ),
+        // As a synthesis tool prints it.
+        (
+            PRINTED,
+            ["20000", "4000", "6000"],
+            Status::Accepted,
+            b"accepted\ndepth y[0] 1 from a[0]\ndepth y[1] 1 from a[1]\n",
+        ),
+        // Instances inside an instance.
+        (
+            NESTED,
+            ["20000", "4000", "6000"],
+            Status::Accepted,
+            b"accepted\ndepth y 1 from a\n",
+        ),
+        (
+            NESTED,
+            ["20000", "4000", "17000"],
+            Status::Rejected,
+            b"rejected window\nat y\nzone 1 1\npick a 0 20000\narc a 17000\narc s.t.j.q 3000\nstrobe 1 20000\ndifference 0\n",
+        ),
+        // Two outputs that are too deep.
+        (
+            b"module top(input clk, input [1:0] a, output [1:0] y); assign y = a; endmodule",
+            ["2", "999999999", "999999999"],
+            Status::Refused,
+            b"refused limit stages y[0] 500000000\n",
+        ),
+        // Two readers in two modules.
+        (
+            b"module sub(input p, output q); JTL d(.a(p), .q(q)); endmodule module top(input clk, input a, output y, output z); sub s(.p(a), .q(y)); JTL j(.a(a), .q(z)); endmodule",
+            ["20000", "4000", "6000"],
+            Status::Refused,
+            FORM,
+        ),
+        // Two drivers, a ring and no driver inside instances.
+        (
+            b"module m(output y); JTL j1(.a(a), .q(y)); JTL j2(.a(a), .q(y)); endmodule module top(input clk); m u(); m v(); endmodule",
+            ["20000", "4000", "6000"],
+            Status::Refused,
+            b"refused flat two drivers u.y u.j1.q u.j2.q\n",
+        ),
+        (
+            b"module b(input p, output q); assign q = p; endmodule module top(input clk, input a, output y); wire w; b x(.p(w), .q(w)); assign y = a; endmodule",
+            ["20000", "4000", "6000"],
+            Status::Refused,
+            b"refused flat alias loop w x.p x.q\n",
+        ),
+        (
+            b"module m(input p, output q); JTL j(.a(p), .q(q)); endmodule module top(input clk, output y); m s(.q(y)); endmodule",
+            ["20000", "4000", "6000"],
+            Status::Refused,
+            b"refused flat no driver s.j.a\n",
+        ),
+        // As many wire bits as there may be, and one more.
+        (
+            b"module top(input clk); wire [1999998:0] w; endmodule",
+            ["20000", "4000", "6000"],
+            Status::Accepted,
+            b"accepted\n",
+        ),
+        (
+            b"module top(input clk); wire [0:1999999] w; endmodule",
+            ["20000", "4000", "6000"],
+            Status::Refused,
+            b"refused limit wires 2000001\n",
         ),
         // A ring beside a wire.
         (
@@ -153,7 +253,7 @@ fn rows_of_the_form(rt: HostRuntime) -> Result<(), Fail> {
             b"module top(input clk, input a, output y, output z);\nJTL j(.a(a), .q(y));\nendmodule\n",
             ["20000", "4000", "6000"],
             Status::Refused,
-            FORM,
+            b"refused flat no driver z\n",
         ),
         // A JTL that reads the clock.
         (
@@ -162,9 +262,15 @@ fn rows_of_the_form(rt: HostRuntime) -> Result<(), Fail> {
             Status::Refused,
             FORM,
         ),
-        // Ports without clk.
+        // Ports without clk, and clk as an output.
         (
             b"module top(input a, output y);\nJTL j(.a(a), .q(y));\nendmodule\n",
+            ["20000", "4000", "6000"],
+            Status::Refused,
+            FORM,
+        ),
+        (
+            b"module top(input a, output clk);\nJTL j(.a(a), .q(clk));\nendmodule\n",
             ["20000", "4000", "6000"],
             Status::Refused,
             FORM,
@@ -173,21 +279,28 @@ fn rows_of_the_form(rt: HostRuntime) -> Result<(), Fail> {
         (
             b"module top(input clk, input a, output y);\nJTL j(.q(y), .a(a));\nendmodule\n",
             ["20000", "4000", "6000"],
-            Status::Refused,
-            FORM,
+            Status::Accepted,
+            ACCEPTED,
         ),
         // A name on two .q, and an input on a .q.
         (
             b"module top(input clk, input a, input b, output y);\nJTL j(.a(a), .q(y));\nJTL k(.a(b), .q(y));\nendmodule\n",
             ["20000", "4000", "6000"],
             Status::Refused,
-            FORM,
+            b"refused flat two drivers y j.q k.q\n",
         ),
         (
             b"module top(input clk, input a, input b, output y);\nJTL j(.a(a), .q(b));\nJTL k(.a(b), .q(y));\nendmodule\n",
             ["20000", "4000", "6000"],
             Status::Refused,
-            FORM,
+            b"refused flat two drivers b b j.q\n",
+        ),
+        // Wires that are assigned in a ring.
+        (
+            b"module top(input clk, input a, output y);\nwire u, v;\nassign u = v;\nassign v = u;\nJTL j(.a(a), .q(y));\nendmodule\n",
+            ["20000", "4000", "6000"],
+            Status::Refused,
+            b"refused flat alias loop u v\n",
         ),
         // The clock alone.
         (
@@ -195,6 +308,55 @@ fn rows_of_the_form(rt: HostRuntime) -> Result<(), Fail> {
             ["20000", "4000", "6000"],
             Status::Accepted,
             b"accepted\n",
+        ),
+        // Texts that are refused before.
+        (
+            b"",
+            ["20000", "4000", "6000"],
+            Status::Refused,
+            b"refused bind no top\n",
+        ),
+        (
+            b"module top(input a, output y);\nassign y = 1'b0;",
+            ["20000", "4000", "6000"],
+            Status::Refused,
+            b"refused lex 43 bad byte\n",
+        ),
+        (
+            b"/*",
+            ["20000", "4000", "6000"],
+            Status::Refused,
+            b"refused lex 0 unended comment\n",
+        ),
+        (
+            b"(* a",
+            ["20000", "4000", "6000"],
+            Status::Refused,
+            b"refused lex 0 unended attribute\n",
+        ),
+        (
+            b"\\\n",
+            ["20000", "4000", "6000"],
+            Status::Refused,
+            b"refused lex 0 empty escape\n",
+        ),
+        (
+            b"`include",
+            ["20000", "4000", "6000"],
+            Status::Refused,
+            b"refused lex 0 directive\n",
+        ),
+        (
+            b"9999999999",
+            ["20000", "4000", "6000"],
+            Status::Refused,
+            b"refused lex 0 big number\n",
+        ),
+        (
+            b"module top(input clk",
+            ["20000", "4000", "6000"],
+            Status::Refused,
+            b"refused parse 20\n",
         ),
     ];
     for (netlist, [period, low, high], status, text) in rows {
@@ -205,6 +367,38 @@ fn rows_of_the_form(rt: HostRuntime) -> Result<(), Fail> {
         let answer = sign_off_run(alloc, &given, &mut folder, &mut out);
         assert_eq!(rt; answer, status, "{:?}", netlist);
         assert_eq!(rt; out.bytes(), text, "{:?}", netlist);
+    }
+    Ok(())
+}
+
+// Modules with two instances of the next, so many deep.
+fn deep_modules(alloc: Global, count: u32) -> Result<Vec<u8>, AllocError> {
+    let mut text = Vec::new(alloc);
+    for i in 1..count {
+        let next = i + 1;
+        let line = format!(in alloc; "module m{i}; m{next} i(), j(); endmodule\n")?;
+        text.extend_from_slice(line.as_bytes())?;
+    }
+    let last = format!(in alloc; "module m{count}; endmodule\n")?;
+    text.extend_from_slice(last.as_bytes())?;
+    Ok(text)
+}
+
+#[test]
+fn at_most_64_levels(rt: HostRuntime) -> Result<(), Fail> {
+    let alloc = rt.alloc();
+    let rows: [(u32, &[u8]); 2] = [(64, FORM), (65, b"refused limit nesting 65\n")];
+    for (count, text) in rows {
+        let netlist = deep_modules(alloc, count)?;
+        let mut folder = MemoryFolder::new(alloc, Vec::new(alloc));
+        folder.put("n.v", &netlist)?;
+        let mut out = MemorySink::new(alloc, 1000, Vec::new(alloc))?;
+        let given = words_of(alloc, &["n.v", "20000", "4000", "6000"])?;
+        assert_eq!(rt;
+            sign_off_run(alloc, &given, &mut folder, &mut out),
+            Status::Refused
+        );
+        assert_eq!(rt; out.bytes(), text);
     }
     Ok(())
 }
@@ -227,7 +421,7 @@ fn at_most_100000_jtls(rt: HostRuntime) -> Result<(), Fail> {
     let alloc = rt.alloc();
     let rows: [(u32, Status, &[u8]); 2] = [
         (99999, Status::Accepted, b"accepted\ndepth y 1 from w0\n"),
-        (100000, Status::Refused, FORM),
+        (100000, Status::Refused, b"refused limit cells 100001\n"),
     ];
     for (count, status, text) in rows {
         let netlist = long_chain(alloc, count)?;
@@ -246,7 +440,10 @@ fn at_most_100000_jtls(rt: HostRuntime) -> Result<(), Fail> {
 #[test]
 fn at_most_16_mib(rt: HostRuntime) -> Result<(), Fail> {
     let alloc = rt.alloc();
-    let rows: [(usize, &[u8]); 2] = [(16_777_216, FORM), (16_777_217, b"refused long n.v\n")];
+    let rows: [(usize, &[u8]); 2] = [
+        (16_777_216, b"refused bind no top\n"),
+        (16_777_217, b"refused long n.v\n"),
+    ];
     for (count, text) in rows {
         let blanks = vec![in alloc; b' '; count]?;
         let mut folder = MemoryFolder::new(alloc, Vec::new(alloc));

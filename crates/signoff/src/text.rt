@@ -9,7 +9,7 @@ ghost use Rattle.rsfq_ids.specs.Bench.{tick_at};
 ghost use Rattle.rsfq_ids.specs.WellFormed.{IsPositiveTime, IsTime};
 ghost use Rattle.rsfq_ids.specs.Path.{pick_time, strobe_at};
 ghost use Rattle.wire_timing.specs.Wires.{design_of};
-ghost use Rattle.signoff.specs.Text.{port_name, cell_name, output_name, net_name, depth_line, accepted_text, source_name, arc_line, arc_lines, pick_text, window_head, strobe_text, window_text};
+ghost use Rattle.signoff.specs.Text.{port_name, cell_name, output_name, net_name, output_depth, depth_line, accepted_text, source_name, arc_line, arc_lines, pick_text, window_head, strobe_text, stages_text, window_text};
 
 use itoa::Buffer;
 use rsfq_ids::circuit::{Bench, Flat, Strobe};
@@ -93,13 +93,20 @@ fn push_time(text: &mut Vec<u8>, time: i128) -> Result<(), NoMemory>
     push(text, buffer.format(time).as_bytes())
 }
 
+// An output and its depth.
+fn push_output(text: &mut Vec<u8>, flat: &Flat, found: &WireDepth) -> Result<(), NoMemory>
+    ensures { IfOk result (λ _. text.new.items ≡ text.old.items ++ output_depth flat.now found.now) }
+{
+    push(text, port_name(flat, found.output).as_bytes())?;
+    push(text, b" ")?;
+    push_number(text, found.depth)
+}
+
 fn depth_line(alloc: Global, flat: &Flat, found: &WireDepth) -> Result<Vec<u8>, NoMemory>
     ensures { IfOk result (λ text. text.items ≡ depth_line flat.now found.now) }
 {
     let mut text = Vec::from_slice(alloc, b"depth ")?;
-    push(&mut text, port_name(flat, found.output).as_bytes())?;
-    push(&mut text, b" ")?;
-    push_number(&mut text, found.depth)?;
+    push_output(&mut text, flat, found)?;
     push(&mut text, b" from ")?;
     push(&mut text, port_name(flat, found.source).as_bytes())?;
     push(&mut text, b"\n")?;
@@ -233,6 +240,20 @@ pub fn accepted_text(alloc: Global, flat: &Flat, depths: &[WireDepth]) -> Result
     for found in depths {
         push(&mut text, &depth_line(alloc, flat, found)?)?;
     }
+    Ok(text)
+}
+
+/// The line of a netlist that is refused because an output is too deep.
+///
+/// # Errors
+///
+/// `NoMemory` where memory is wanting.
+pub fn stages_text(alloc: Global, flat: &Flat, found: &WireDepth) -> Result<Vec<u8>, NoMemory>
+    ensures { IfOk result (λ text. text.items ≡ stages_text flat.now found.now) }
+{
+    let mut text = Vec::from_slice(alloc, b"refused limit stages ")?;
+    push_output(&mut text, flat, found)?;
+    push(&mut text, b"\n")?;
     Ok(text)
 }
 

@@ -1,5 +1,5 @@
 use Rattle.std.proofs.Common.{inr}
-use Rattle.signoff.proofs.Settled.{accepted_exact, rejected_exact, long_stands, report_stands, headline_stands, sound_stands}
+use Rattle.signoff.proofs.Settled.{accepted_exact, rejected_exact, refused_exact, refusal_stands, long_stands, report_stands, headline_stands, sound_stands}
 use Rattle.signoff.proofs.run.sign_off_run.Goals as goal
 
 pub returns-clause-answer : goal.returns-clause-answer
@@ -22,3 +22,9 @@ returns-clause-headline g c = headline_stands _ _ _ _ (returns-clause-answer g c
 
 pub returns-clause-sound : goal.returns-clause-sound
 returns-clause-sound g c = sound_stands _ _ _ _ (returns-clause-answer g c)
+
+pub returns-clause-refused : goal.returns-clause-refused
+returns-clause-refused g c = refused_exact _ _ _ _ (returns-clause-answer g c)
+
+pub returns-clause-refusal : goal.returns-clause-refusal
+returns-clause-refusal g c = refusal_stands _ _ _ _ (returns-clause-answer g c)

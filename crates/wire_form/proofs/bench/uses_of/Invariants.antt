@@ -1,6 +1,0 @@
-use Rattle.std.proofs.Common.{◌≡◌, take, map}
-use Rattle.wire_form.specs.Circuit.{use_of}
-use Rattle.wire_form.proofs.bench.uses_of.Given as goal
-
-abbrev pub invariant-loop-port : goal.invariant-loop-port
-invariant-loop-port l = l.uses ≡ map (use_of l.low l.high) (take l.port-index l.ports)

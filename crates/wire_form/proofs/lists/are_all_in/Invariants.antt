@@ -1,8 +1,0 @@
-use Rattle.std.proofs.Common.{◌≡◌, drop}
-use Rattle.std.specs.List.{list_all, list_any}
-use Rattle.std.specs.Str.{bytes_eq}
-use Rattle.wire_form.specs.Lists.{texts}
-use Rattle.wire_form.proofs.lists.are_all_in.Given as goal
-
-abbrev pub invariant-loop-name : goal.invariant-loop-name
-invariant-loop-name l = list_all (λ name. list_any (bytes_eq name) l.table) (texts (drop l.name-index l.names.items)) ≡ list_all (λ name. list_any (bytes_eq name) l.table) (texts l.names.items)
