@@ -1,11 +1,11 @@
 -- A file has one form.
-use Rattle.std.proofs.Common.{◌≡◌, inl, inr, ◌∙◌, ◌==◌, ℕ, Bool, cond, true, false, refl, sym, subst, arith, List, [], ◌∷◌, drop, Result, Ok, Err}
+use Rattle.std.proofs.Common.{◌≡◌, ◌⊎◌, inl, inr, ◌∙◌, ◌-◌, ◌==◌, ℕ, Bool, cond, true, false, refl, ap, sym, subst, arith, List, [], ◌∷◌, length, drop, Result, Ok, Err}
 use Rattle.std.specs.Prelude.{nat_eq, ◌&&◌, nat_le}
 use Rattle.std.specs.List.{starts_with}
 use Rattle.std.proofs.lemmas.Bool.{eqb-true}
 use Rattle.golden_aig.specs.declared.graph.Aig.{Aig}
-use Rattle.golden_aig.specs.Aig.{IsAig}
-use Rattle.and_order.specs.Renaming.{IsRenaming}
+use Rattle.and_order.specs.declared.listing.Listing.{Listing}
+use Rattle.and_order.specs.Renaming.{IsRenaming, IsOrdered, IsOneGraph}
 use Rattle.aiger_read.specs.declared.fault.Stop.{Stop}
 use Rattle.aiger_read.specs.declared.fault.AigerFault.{AigerFault}
 use Rattle.aiger_read.specs.declared.fault.AigerWhy.TheVariants as why
@@ -16,8 +16,11 @@ use Rattle.aiger_read.specs.declared.text.Text.{Text}
 use Rattle.aiger_read.specs.Reading.{fault}
 use Rattle.aiger_read.specs.Header.{header_at, has_head, word_of, variables_at, spaces_in}
 use Rattle.aiger_read.specs.Graph.{graph_at, IsRefusal}
-use Rattle.aiger_read.specs.Text.{text_at, listing_of, IsListRefusal}
-use Rattle.aiger_read.specs.Both.{is_ascii, IsFileOf, IsFileOfNone}
+use Rattle.aiger_read.specs.Text.{text_at, listing_of, IsListRefusal, IsRingFault}
+use Rattle.aiger_read.specs.Both.{is_ascii, IsFileOf, SpellsNone, FilesAreSpelled}
+use Rattle.aiger_read.specs.Spelled.{Spelled, SpellOne}
+use Rattle.aiger_read.proofs.BinaryFiles.{binary_read, binary_written}
+use Rattle.aiger_read.proofs.AsciiFiles.{ascii_read, ascii_written, ascii_listing}
 use Rattle.aiger_read.proofs.WellFormed.{bind_ok, same_value}
 
 and_true : (a b : Bool) → (a && b) ≡ true → (a ≡ true) × (b ≡ true)
@@ -60,22 +63,49 @@ two_words (x ∷ y ∷ bytes) a b =
     let high : 105 ≡ y = eqb-true 105 y second.0 in
     absurd (omega arith)
 
-pub none_in_lines : (bytes : List ℕ) (fault : AigerFault) → is_ascii bytes ≡ true → IsListRefusal bytes fault → IsFileOfNone bytes fault
-none_in_lines bytes fault ascii (inl memory) = inl memory
-none_in_lines bytes fault ascii (inr (inl (stop, is, why, offset))) = inr none where
-  none : (aig : Aig) → IsAig aig → IsFileOf bytes aig → ⊥
-  none aig graph (inl (text, read, renaming)) = let both = sym is ∙ read in absurd cc
-  none aig graph (inr read) = two_words bytes ascii (graph_begins bytes aig read)
-none_in_lines bytes fault ascii (inr (inr (text, is, ring))) = inr none where
-  none : (aig : Aig) → IsAig aig → IsFileOf bytes aig → ⊥
-  none aig graph (inl (other, read, renaming)) =
-      let same : other ≡ text = same_value other text (sym read ∙ is) in
-      ring.none aig graph (subst (λ (t : Text). IsRenaming (listing_of t) aig) same renaming)
-  none aig graph (inr read) = two_words bytes ascii (graph_begins bytes aig read)
+-- ---- spelled files
 
-pub none_in_bytes : (bytes : List ℕ) (fault : AigerFault) → is_ascii bytes ≡ false → IsRefusal bytes fault → IsFileOfNone bytes fault
+pub spelled : FilesAreSpelled
+spelled bytes aig graph = (read, written) where
+  read : IsFileOf bytes aig → Spelled bytes aig
+  read (inl lists) = inl (ascii_read bytes aig graph lists)
+  read (inr reads) = inr (binary_read bytes aig reads)
+
+  written : Spelled bytes aig → IsFileOf bytes aig
+  written (inl file) = inl (ascii_written bytes aig file)
+  written (inr file) = inr (binary_written bytes aig file)
+
+pub none_in_lines : (bytes : List ℕ) (fault : AigerFault) → is_ascii bytes ≡ true → IsListRefusal bytes fault → SpellsNone bytes fault
+none_in_lines bytes fault ascii (inl memory) = inl memory
+none_in_lines bytes fault ascii (inr refusal) = inr (no_file refusal) where
+  no_file : (((stop : Stop) × (text_at bytes ≡ Err stop) × (fault.why ≡ stop.why) × (fault.offset ≡ length bytes - stop.left)) ⊎ ((text : Text) × (text_at bytes ≡ Ok text) × IsRingFault (length bytes) text fault)) → (aig : Aig) → Spelled bytes aig → ⊥
+  no_file r aig (inr file) = two_words bytes ascii (graph_begins bytes aig (binary_written bytes aig file))
+  no_file (inl (stop, is, why, offset)) aig (inl file) = let list = ascii_written bytes aig file in let both = sym is ∙ list.1 in absurd cc
+  no_file (inr (text, is, ring)) aig (inl file) =
+      let list = ascii_written bytes aig file in
+      let same : list.0 ≡ text = same_value list.0 text (sym list.1 ∙ is) in
+      ring.none aig file.graph (subst (λ (t : Text). IsRenaming (listing_of t) aig) same list.2)
+
+pub none_in_bytes : (bytes : List ℕ) (fault : AigerFault) → is_ascii bytes ≡ false → IsRefusal bytes fault → SpellsNone bytes fault
 none_in_bytes bytes fault other (inl memory) = inl memory
 none_in_bytes bytes fault other (inr (stop, is, why, offset)) = inr none where
-  none : (aig : Aig) → IsAig aig → IsFileOf bytes aig → ⊥
-  none aig graph (inl (text, read, renaming)) = let begins = list_begins bytes text read in absurd cc
-  none aig graph (inr read) = let both = sym is ∙ read in absurd cc
+  none : (aig : Aig) → Spelled bytes aig → ⊥
+  none aig (inl file) = let list = ascii_written bytes aig file in let begins = list_begins bytes list.0 list.1 in absurd cc
+  none aig (inr file) = let both = sym is ∙ binary_written bytes aig file in absurd cc
+
+-- ---- one graph
+
+pub one_spelling : IsOneGraph → SpellOne
+one_spelling unique bytes one other (inl (f, first)) (inl (g, again)) =
+    let tf = ascii_listing bytes one f in
+    let tg = ascii_listing bytes other g in
+    let text : tf.0 ≡ tg.0 = same_value tf.0 tg.0 (sym tf.1 ∙ tg.1) in
+    let listing : g.listing ≡ f.listing = sym tg.2 ∙ ap listing_of (sym text) ∙ tf.2 in
+    unique f.listing one other f.graph g.graph (f.names, f.renames, first) (subst (λ (l : Listing). IsOrdered l other) listing (g.names, g.renames, again))
+one_spelling unique bytes one other (inl (f, first)) (inr g) =
+    let list = ascii_written bytes one f in
+    absurd (two_words bytes (list_begins bytes list.0 list.1) (graph_begins bytes other (binary_written bytes other g)))
+one_spelling unique bytes one other (inr f) (inl (g, again)) =
+    let list = ascii_written bytes other g in
+    absurd (two_words bytes (list_begins bytes list.0 list.1) (graph_begins bytes one (binary_written bytes one f)))
+one_spelling unique bytes one other (inr f) (inr g) = same_value one other (sym (binary_written bytes one f) ∙ binary_written bytes other g)

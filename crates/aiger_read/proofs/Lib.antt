@@ -8,4 +8,14 @@ pub mod AndLaws
 pub mod Marks
 pub mod More
 pub mod Listings
+pub mod FileLines
+pub mod FieldTexts
+pub mod HeadLines
+pub mod SymbolFiles
+pub mod SymbolSets
+pub mod TextEnds
+pub mod BinaryFiles
+pub mod AsciiLines
+pub mod FileListings
+pub mod AsciiFiles
 pub mod Both

@@ -103,7 +103,7 @@ line_good top defined bytes x e =
 
 -- ---- definitions
 
-in_at : (defined : List ℕ) (at literal : ℕ) → slice_get defined at ≡ Some literal → is_in defined literal ≡ true
+pub in_at : (defined : List ℕ) (at literal : ℕ) → slice_get defined at ≡ Some literal → is_in defined literal ≡ true
 in_at [] at literal e = absurd cc
 in_at (x ∷ defined) zero literal e = let same : x ≡ literal = same_Some x literal e in rw (eq-eqb x literal same) refl
 in_at (x ∷ defined) (suc at) literal e = go (x == literal) (in_at defined at literal e) where
@@ -111,14 +111,14 @@ in_at (x ∷ defined) (suc at) literal e = go (x == literal) (in_at defined at l
   go true h = refl
   go false h = h
 
-at_in : (defined : List ℕ) (literal : ℕ) → is_in defined literal ≡ true → (at : ℕ) × (slice_get defined at ≡ Some literal)
+pub at_in : (defined : List ℕ) (literal : ℕ) → is_in defined literal ≡ true → (at : ℕ) × (slice_get defined at ≡ Some literal)
 at_in [] literal e = absurd cc
 at_in (x ∷ defined) literal e = go (x == literal) refl e (at_in defined literal) where
   go : (b : Bool) → (x == literal) ≡ b → (b || is_in defined literal) ≡ true → (is_in defined literal ≡ true → (at : ℕ) × (slice_get defined at ≡ Some literal)) → (at : ℕ) × (slice_get (x ∷ defined) at ≡ Some literal)
   go true is h more = (0, ap Some (eqb-true x literal is))
   go false is h more = let rest = more h in (suc rest.0, rest.1)
 
-abbrev AreGood : ℕ → List ℕ → Type 0
+abbrev pub AreGood : ℕ → List ℕ → Type 0
 AreGood top defined = ((at literal : ℕ) → slice_get defined at ≡ Some literal → IsDefinition top literal) × HoldsOnce defined
 
 new_definition : (top literal : ℕ) → is_out top literal ≡ false → IsDefinition top literal
@@ -153,7 +153,7 @@ good_more top literal defined good new = (each, once) where
 no_definitions : (top : ℕ) → AreGood top []
 no_definitions top = (λ at l e. absurd cc, λ here there l e f. absurd cc)
 
-lhs_more : (lines : List Line) (line : Line) → lhs_of (lines ++ line ∷ []) ≡ lhs_of lines ++ line.lhs ∷ []
+pub lhs_more : (lines : List Line) (line : Line) → lhs_of (lines ++ line ∷ []) ≡ lhs_of lines ++ line.lhs ∷ []
 lhs_more [] line = refl
 lhs_more (l ∷ lines) line = ap (λ (ls : List ℕ). l.lhs ∷ ls) (lhs_more lines line)
 
@@ -201,16 +201,16 @@ all_defined defined (u ∷ uses) e at used is = go at (bind_ok (use_known_at def
   go zero parts there more = subst (λ (v : Used). IsDefined defined v.literal) (same_Some u used there) (used_defined defined u parts.1)
   go (suc k) parts there more = more parts.2 k used there
 
-uses_at : (lines : List Line) (k : ℕ) (line : Line) → slice_get lines k ≡ Some line → (at : ℕ) × (slice_get (uses_of lines) at ≡ Some line.rhs0) × (slice_get (uses_of lines) (suc at) ≡ Some line.rhs1)
+pub uses_at : (lines : List Line) (k : ℕ) (line : Line) → slice_get lines k ≡ Some line → (at : ℕ) × (slice_get (uses_of lines) at ≡ Some line.rhs0) × (slice_get (uses_of lines) (suc at) ≡ Some line.rhs1)
 uses_at [] k line e = absurd cc
 uses_at (l ∷ lines) zero line e = let same : l ≡ line = same_Some l line e in (0, ap (λ (g : Line). Some g.rhs0) same, ap (λ (g : Line). Some g.rhs1) same)
 uses_at (l ∷ lines) (suc k) line e = let rest = uses_at lines k line e in (suc (suc rest.0), rest.1, rest.2)
 
-fused : (lines : List Line) → map (λ (one : And). one.lhs) (map and_of lines) ≡ lhs_of lines
+pub fused : (lines : List Line) → map (λ (one : And). one.lhs) (map and_of lines) ≡ lhs_of lines
 fused [] = refl
 fused (l ∷ lines) = ap (λ (ls : List ℕ). l.lhs ∷ ls) (fused lines)
 
-unmapped : {A B : Type 0} (f : A → B) (xs : List A) (k : ℕ) (y : B) → slice_get (map f xs) k ≡ Some y → (x : A) × (slice_get xs k ≡ Some x) × (f x ≡ y)
+pub unmapped : {A B : Type 0} (f : A → B) (xs : List A) (k : ℕ) (y : B) → slice_get (map f xs) k ≡ Some y → (x : A) × (slice_get xs k ≡ Some x) × (f x ≡ y)
 unmapped f [] k y e = absurd cc
 unmapped f (x ∷ xs) zero y e = (x, refl, same_Some (f x) y e)
 unmapped f (x ∷ xs) (suc k) y e = unmapped f xs k y e
@@ -241,13 +241,7 @@ listing_ok text small good outputs operands ins outs =
 no_front : (many count : ℕ) → many ≡ 0 + count → many ≡ count
 no_front many count e = omega arith
 
-few_lines : (many ands inputs top : ℕ) → many ≡ 0 + ands → inputs + ands ≤ top → top ≤ 1000000 → many ≤ 1000000
-few_lines many ands inputs top e fits small = omega arith
-
-abbrev pub IsGoodText : Text → Type 0
-IsGoodText text = IsListing (listing_of text) × (length text.lines ≤ 1000000)
-
-pub text_ok : (bytes : List ℕ) (text : Text) → text_at bytes ≡ Ok text → IsGoodText text
+pub text_ok : (bytes : List ℕ) (text : Text) → text_at bytes ≡ Ok text → IsListing (listing_of text)
 unfolding text_at
 text_ok bytes text e =
     let head = bind_ok (header_at form.Ascii bytes) _ text e in
@@ -261,15 +255,11 @@ text_ok bytes text e =
     let made : Text = record { top = h.variables; inputs = inputs.0.0; outputs = outputs.0.0; lines = lines.0.0; left = length outputs.0.1; in_names = names.0.0; out_names = names.0.1 } in
     let ok = header_ok form.Ascii bytes head.0 head.1 in
     let small = ok.0 in
-    let fits = ok.1 in
     let kept = symbols_ok (length lines.0.1) (replicate h.inputs None, replicate h.outputs None) names.0 lines.0.1 names.1 in
     let input_count = more_many (input_at h.variables) h.inputs [] head.0.1 inputs.0 inputs.1 in
     let output_count = more_many (λ front. output_at h.variables) h.outputs [] inputs.0.1 outputs.0 outputs.1 in
-    let line_count = more_many (λ front. and_line_at h.variables (inputs.0.0 ++ lhs_of front)) h.ands [] outputs.0.1 lines.0 lines.1 in
     let good = lines_are_good h.variables h.ands inputs.0.0 outputs.0.1 lines.0 (inputs_good h.variables h.inputs head.0.1 inputs.0 inputs.1) lines.1 in
     let ins : length names.0.0 ≡ h.inputs = kept.0 ∙ length-replicate h.inputs None in
     let outs : length names.0.1 ≡ h.outputs = kept.1 ∙ length-replicate h.outputs None in
-    subst IsGoodText (same_value made text two.2) (
-      listing_ok made small good one.1 two.1 (ins ∙ sym (no_front (length inputs.0.0) h.inputs input_count)) (outs ∙ sym (no_front (length outputs.0.0) h.outputs output_count)),
-      few_lines (length lines.0.0) h.ands h.inputs h.variables line_count fits small,
-    )
+    subst (λ (t : Text). IsListing (listing_of t)) (same_value made text two.2)
+    (listing_ok made small good one.1 two.1 (ins ∙ sym (no_front (length inputs.0.0) h.inputs input_count)) (outs ∙ sym (no_front (length outputs.0.0) h.outputs output_count)))

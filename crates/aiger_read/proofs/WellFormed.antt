@@ -28,7 +28,7 @@ pub unless_ok : {A : Type 0} (b : Bool) (s : Stop) (r : Result A Stop) (y : A) �
 unless_ok true s r y e = absurd cc
 unless_ok false s r y e = (refl, e)
 
-when_ok : {A : Type 0} (b : Bool) (s : Stop) (r : Result A Stop) (y : A) → cond b r (Err s) ≡ Ok y → (b ≡ true) × (r ≡ Ok y)
+pub when_ok : {A : Type 0} (b : Bool) (s : Stop) (r : Result A Stop) (y : A) → cond b r (Err s) ≡ Ok y → (b ≡ true) × (r ≡ Ok y)
 when_ok true s r y e = (refl, e)
 when_ok false s r y e = absurd cc
 

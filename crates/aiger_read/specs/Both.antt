@@ -9,8 +9,9 @@ use Rattle.aiger_read.specs.declared.header.Form.TheVariants as form
 use Rattle.aiger_read.specs.Header.{word_of}
 use Rattle.aiger_read.specs.Graph.{ReadsAs, IsRefusal}
 use Rattle.aiger_read.specs.Text.{ListsAs, IsListRefusal}
+use Rattle.aiger_read.specs.Spelled.{Spelled}
 
--- the bytes are a file of the graph, in the one form or the other
+-- the bytes are a file of the graph, read from the left, in the one form or the other
 abbrev pub IsFileOf : List ℕ → Aig → Type 0
 IsFileOf bytes aig = ListsAs bytes aig ⊎ ReadsAs bytes aig
 
@@ -22,6 +23,10 @@ is_ascii bytes = starts_with nat_eq bytes (word_of form.Ascii)
 abbrev pub IsFault : List ℕ → AigerFault → Type 0
 IsFault bytes fault = (is_ascii bytes ≡ true → IsListRefusal bytes fault) × (is_ascii bytes ≡ false → IsRefusal bytes fault)
 
--- memory ran out, or the bytes are a file of no graph, in neither form
-abbrev pub IsFileOfNone : List ℕ → AigerFault → Type 0
-IsFileOfNone bytes fault = (fault.why ≡ why.Memory) ⊎ ((aig : Aig) → IsAig aig → IsFileOf bytes aig → ⊥)
+-- memory ran out, or the bytes spell no graph, in neither form
+abbrev pub SpellsNone : List ℕ → AigerFault → Type 0
+SpellsNone bytes fault = (fault.why ≡ why.Memory) ⊎ ((aig : Aig) → Spelled bytes aig → ⊥)
+
+-- a file read from the left is one that is spelled
+abbrev pub FilesAreSpelled : Type 0
+FilesAreSpelled = (bytes : List ℕ) (aig : Aig) → IsAig aig → (IsFileOf bytes aig → Spelled bytes aig) × (Spelled bytes aig → IsFileOf bytes aig)

@@ -6,3 +6,4 @@ pub mod Spelling
 pub mod Lines
 pub mod Text
 pub mod Both
+pub mod Spelled

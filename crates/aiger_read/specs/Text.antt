@@ -3,7 +3,7 @@ use Rattle.std.specs.Prelude.{◌≡◌, ℕ, ◌-◌, ◌*◌, ◌/◌, ◌==�
 use Rattle.golden_aig.specs.declared.graph.And.{And}
 use Rattle.golden_aig.specs.declared.graph.Aig.{Aig}
 use Rattle.and_order.specs.declared.listing.Listing.{Listing}
-use Rattle.and_order.specs.Renaming.{IsRenaming, HasNoGraph}
+use Rattle.and_order.specs.Renaming.{IsRenaming, IsOrdered, HasNoGraph}
 use Rattle.and_order.specs.Ring.{IsRing}
 use Rattle.aiger_read.specs.declared.fault.AigerWhy.TheVariants as why
 use Rattle.aiger_read.specs.declared.fault.AigerFault.{AigerFault}
@@ -61,6 +61,10 @@ listing_of text = record { top = text.top; inputs = text.inputs; ands = map and_
 -- the bytes are an ASCII file that lists the graph, with its own names of the variables and its ANDs in any order
 abbrev pub ListsAs : List ℕ → Aig → Type 0
 ListsAs bytes aig = (text : Text) × (text_at bytes ≡ Ok text) × IsRenaming (listing_of text) aig
+
+-- and its ANDs stand in the order in which their lines become ready, and those that are ready together in the order of the file
+abbrev pub ListsInOrder : List ℕ → Aig → Type 0
+ListsInOrder bytes aig = (text : Text) × (text_at bytes ≡ Ok text) × IsOrdered (listing_of text) aig
 
 -- The listing has ANDs in a ring, so it lists no graph. The place, from the count of bytes, is that of the first line of an AND.
 pub record IsRingFault (count : ℕ) (text : Text) (fault : AigerFault) : Type 0 where

@@ -3,9 +3,9 @@
 ghost use Rattle.std.specs.Prelude.{◌≡◌, ◌<◌, ◌^◌, length, IfOk, IfErr};
 ghost use Rattle.golden_aig.specs.Aig.{IsAig};
 ghost use Rattle.and_order.specs.Listing.{IsListing};
-ghost use Rattle.and_order.specs.Renaming.{IsRenaming};
+ghost use Rattle.and_order.specs.Renaming.{IsRenaming, IsOrdered};
 ghost use Rattle.aiger_read.specs.declared.fault.AigerWhy.TheVariants as why;
-ghost use Rattle.aiger_read.specs.Text.{listing_of, ListsAs, IsOrderRefusal, IsListRefusal};
+ghost use Rattle.aiger_read.specs.Text.{listing_of, ListsAs, ListsInOrder, IsOrderRefusal, IsListRefusal};
 
 use crate::fault::{AigerFault, AigerWhy, ReadStop};
 use crate::text::{Text, make_listing, take_text};
@@ -27,9 +27,9 @@ fn no_memory() -> AigerFault
 fn order_text(alloc: Global, count: usize, text: Text) -> Result<Aig, AigerFault>
     requires count { count < 2 ^ 32 }
     requires listing { IsListing (listing_of text) }
-    requires few { length text.lines < 2 ^ 32 }
     ensures graph { IfOk result IsAig }
     ensures renaming { IfOk result (IsRenaming (listing_of text)) }
+    ensures order { IfOk result (IsOrdered (listing_of text)) }
     ensures fault { IfErr result (IsOrderRefusal count text) }
 {
     let left = text.left;
@@ -57,6 +57,7 @@ fn order_text(alloc: Global, count: usize, text: Text) -> Result<Aig, AigerFault
 pub fn read_ascii(alloc: Global, bytes: &[u8]) -> Result<Aig, AigerFault>
     requires { length bytes.now < 2 ^ 32 }
     ensures lists { IfOk result (ListsAs bytes.now) }
+    ensures order { IfOk result (ListsInOrder bytes.now) }
     ensures graph { IfOk result IsAig }
     ensures fault { IfErr result (IsListRefusal bytes.now) }
 {

@@ -31,7 +31,7 @@ pub enum AigerWhy {
     /// A literal that nothing defines.
     #[error("undefined {0}")]
     Undefined(u32),
-    /// ANDs that use each other in a ring.
+    /// The literals of ANDs in a ring, each once: each uses the next one, and the last the first, which is the least.
     #[error("cycle")]
     Cycle(List<u32>),
     /// A difference of an AND's literals that leads below 0, or a first one of 0.

@@ -2,7 +2,8 @@
 
 ghost use Rattle.std.specs.Prelude.{◌≡◌, ◌<◌, ◌^◌, length, IfOk, IfErr};
 ghost use Rattle.golden_aig.specs.Aig.{IsAig};
-ghost use Rattle.aiger_read.specs.Both.{IsFileOf, IsFault, IsFileOfNone};
+ghost use Rattle.aiger_read.specs.Both.{IsFault, SpellsNone};
+ghost use Rattle.aiger_read.specs.Spelled.{SpelledInOrder};
 
 use crate::ascii::read_ascii;
 use crate::binary::read_binary;
@@ -21,10 +22,10 @@ use std::alloc::Global;
 /// any other fault. `Memory` may come of any file.
 pub fn read_aiger(alloc: Global, bytes: &[u8]) -> Result<Aig, AigerFault>
     requires { length bytes.now < 2 ^ 32 }
-    ensures file { IfOk result (IsFileOf bytes.now) }
+    ensures spelled { IfOk result (SpelledInOrder bytes.now) }
     ensures graph { IfOk result IsAig }
     ensures fault { IfErr result (IsFault bytes.now) }
-    ensures none { IfErr result (IsFileOfNone bytes.now) }
+    ensures none { IfErr result (SpellsNone bytes.now) }
 {
     if bytes.starts_with(b"aag ") {
         read_ascii(alloc, bytes)

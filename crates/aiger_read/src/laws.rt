@@ -1,6 +1,10 @@
-//! What the readings of numbers mean, in the words of the format.
+//! What the readings of numbers and files mean, in the words of the format.
 
+ghost use Rattle.aiger_read.specs.Both.{FilesAreSpelled};
+ghost use Rattle.aiger_read.specs.Spelled.{SpellOne};
 ghost use Rattle.aiger_read.specs.Spelling.{NumbersAreRead, DifferencesAreRead, AndsAreRead};
+
+use and_order::one_graph_is_ordered;
 
 /// A field is read as a number exactly where it is one or more digits of that value, which is below 2^32.
 pub fn numbers_are_read()
@@ -16,3 +20,15 @@ pub fn differences_are_read()
 pub fn ands_are_read()
     ensures { AndsAreRead }
 {}
+
+/// The bytes are a file of a well-formed graph, read from the left, exactly where they spell it, as a writer of one of the forms does.
+pub fn files_are_spelled()
+    ensures { FilesAreSpelled }
+{}
+
+/// The bytes spell at most one graph, if the ANDs of an ASCII file are taken in the order in which their lines become ready: that which [`crate::read_aiger`] answers.
+pub fn one_graph_is_spelled()
+    ensures { SpellOne }
+{
+    one_graph_is_ordered();
+}

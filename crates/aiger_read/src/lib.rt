@@ -21,7 +21,9 @@ pub use ascii::read_ascii;
 pub use binary::read_binary;
 pub use fault::{AigerFault, AigerWhy};
 pub use forms::read_aiger;
-pub use laws::{ands_are_read, differences_are_read, numbers_are_read};
+pub use laws::{
+    ands_are_read, differences_are_read, files_are_spelled, numbers_are_read, one_graph_is_spelled,
+};
 
 #[cfg(test)]
 mod tests;

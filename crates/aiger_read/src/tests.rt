@@ -1,8 +1,8 @@
 //! Files with known graphs and faults. The wanted answers are written by hand.
 
 use crate::{
-    AigerWhy, ands_are_read, differences_are_read, numbers_are_read, read_aiger, read_ascii,
-    read_binary,
+    AigerWhy, ands_are_read, differences_are_read, files_are_spelled, numbers_are_read,
+    one_graph_is_spelled, read_aiger, read_ascii, read_binary,
 };
 use golden_aig::{eval, golden_values, values_are_determined};
 use std::alloc::{AllocError, Global};
@@ -73,7 +73,7 @@ fn faults_are_the_first_from_the_left(rt: HostRuntime) -> Result<(), Fail> {
 
 #[test]
 fn faults_of_lines_have_their_places(rt: HostRuntime) -> Result<(), Fail> {
-    let cases: [(&[u8], &str); 37] = [
+    let cases: [(&[u8], &str); 42] = [
         (b"aag 1 1 0 1 0\n2\n", "16 truncated"),
         (b"aag 1 0 1 0 0\n", "8 latches"),
         (b"aag 1000001 0 0 0 0\n", "4 limit 1000001"),
@@ -113,7 +113,12 @@ fn faults_of_lines_have_their_places(rt: HostRuntime) -> Result<(), Fail> {
         (b"aag 2 1 0 1 0\n2\n4\n", "16 undefined 4"),
         (b"aag 3 1 0 1 1\n2\n4\n4 7 2\n", "20 undefined 7"),
         (b"aag 3 1 0 1 1\n2\n4\n4 2 7\n", "22 undefined 7"),
+        (b"aag 3 0 0 0 2\n2 4 6\n4 2 2\n", "18 undefined 6"),
+        (b"aag 1 1 0 0 0\r\n2\n", "12 number"),
+        (b"aag 1 1 0 0 0\n2\r\n", "14 number"),
         (b"aag 2 1 0 1 0\n2\n4\nx\n", "18 symbol"),
+        (b"aag 2 1 0 0 1\n2\n4 2 2\ncx\n", "22 symbol"),
+        (b"aag 1 1 0 0 0\n2\nc\r\n", "16 symbol"),
         (b"aag 1 1 0 0 0\n2\ni1 a\n", "16 symbol"),
         (b"aag 1 1 0 0 0\n2\no0 a\n", "16 symbol"),
         (b"aag 1 1 0 0 0\n2\ni0 a\ni0 a\n", "21 symbol"),
@@ -126,8 +131,8 @@ fn faults_of_lines_have_their_places(rt: HostRuntime) -> Result<(), Fail> {
 }
 
 #[test]
-fn graphs_of_lines_are_numbered_anew(rt: HostRuntime) -> Result<(), Fail> {
-    let cases: [(&[u8], &str); 9] = [
+fn graphs_are_read_in_the_order_of_use(rt: HostRuntime) -> Result<(), Fail> {
+    let cases: [(&[u8], &str); 19] = [
         (b"aag 1 1 0 1 0\n2\n2\n", "1 [] [2] [None] [None]"),
         (
             b"aag 1 1 0 2 0\n2\n2\n2\n",
@@ -158,6 +163,34 @@ fn graphs_of_lines_are_numbered_anew(rt: HostRuntime) -> Result<(), Fail> {
             "1 [And { lhs: 4, rhs0: 2, rhs1: 2 }, And { lhs: 6, rhs0: 4, rhs1: 2 }, And { lhs: 8, rhs0: 2, rhs1: 2 }] [] [None] []",
         ),
         (b"aag 7 0 0 2 0\n0\n1", "0 [] [0, 1] [] [None, None]"),
+        (
+            b"aag 1 1 0 1 0\n2\n2\ni0 a\no0 y\n",
+            "1 [] [2] [Some(Name { text: \"a\" })] [Some(Name { text: \"y\" })]",
+        ),
+        (
+            b"aag 1 1 0 2 0\n2\n2\n2\no1 z\no0 y\ni0 a",
+            "1 [] [2, 2] [Some(Name { text: \"a\" })] [Some(Name { text: \"y\" }), Some(Name { text: \"z\" })]",
+        ),
+        (
+            b"aag 3 2 0 1 1\n2\n4\n7\n6 5 3\ni1 b\ni0 a\no0 y\n",
+            "2 [And { lhs: 6, rhs0: 5, rhs1: 3 }] [7] [Some(Name { text: \"a\" }), Some(Name { text: \"b\" })] [Some(Name { text: \"y\" })]",
+        ),
+        (
+            b"aag 3 2 0 1 1\n2\n4\n6\n6 4 2\ni0 a\ni1 b\no0 y\nc\n",
+            "2 [And { lhs: 6, rhs0: 4, rhs1: 2 }] [6] [Some(Name { text: \"a\" }), Some(Name { text: \"b\" })] [Some(Name { text: \"y\" })]",
+        ),
+        (
+            b"aag 5 2 0 2 3\n2\n4\n10\n6\n6 4 2\n8 5 3\n10 9 7\n",
+            "2 [And { lhs: 6, rhs0: 4, rhs1: 2 }, And { lhs: 8, rhs0: 5, rhs1: 3 }, And { lhs: 10, rhs0: 9, rhs1: 7 }] [10, 6] [None, None] [None, None]",
+        ),
+        (b"aag 1 1 0 1 0\n2\n1\n", "1 [] [1] [None] [None]"),
+        (
+            b"aag 4 1 0 1 2\n2\n8\n6 2 3\n8 6 6",
+            "1 [And { lhs: 4, rhs0: 2, rhs1: 3 }, And { lhs: 6, rhs0: 4, rhs1: 4 }] [6] [None] [None]",
+        ),
+        (b"aag 1000000 0 0 0 0\n", "0 [] [] [] []"),
+        (b"aag 1 1 0 1 0\n2\n2\nc", "1 [] [2] [None] [None]"),
+        (b"aig 1 1 0 1 0\n2", "1 [] [2] [None] [None]"),
     ];
     for (bytes, wanted) in cases {
         let text = describe(rt.alloc(), bytes)?;
@@ -171,6 +204,8 @@ fn each_form_has_its_reader(rt: HostRuntime) -> Result<(), Fail> {
     numbers_are_read();
     differences_are_read();
     ands_are_read();
+    files_are_spelled();
+    one_graph_is_spelled();
     assert!(rt; read_binary(rt.alloc(), ONE_AND).is_ok());
     assert!(rt; read_ascii(rt.alloc(), ONE_AND).is_err());
     assert!(rt; read_ascii(rt.alloc(), b"aag 1 1 0 1 0\n2\n2\n").is_ok());

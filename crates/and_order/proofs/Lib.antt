@@ -6,3 +6,4 @@ pub mod SortedLines
 pub mod InputNames
 pub mod Rings
 pub mod Renamings
+pub mod OneGraph

@@ -1,9 +1,11 @@
 -- Items of lists after a write or an item more.
-use Rattle.std.proofs.Common.{◌≡◌, ◌≢◌, ◌⊎◌, inl, inr, ◌∙◌, ◌<◌, ◌≤◌, ◌+◌, ℕ, Bool, true, false, cond, zero, suc, refl, ap, arith, List, [], ◌∷◌, ◌++◌, length, get_or, None, Some}
+use Rattle.std.proofs.Common.{◌≡◌, ◌≢◌, ◌⊎◌, inl, inr, ◌∙◌, ◌<◌, ◌≤◌, ◌+◌, ℕ, Bool, true, false, cond, zero, suc, refl, ap, sym, subst, arith, List, [], ◌∷◌, ◌++◌, length, take, drop, get_or, None, Some}
 use Rattle.std.specs.Prelude.{slice_get, slice_set, replicate}
-use Rattle.std.specs.List.{count_by, sum_by}
-use Rattle.std.proofs.lemmas.Option.{same_Some, slice_get_within, get_or_from_slice_get}
+use Rattle.std.specs.List.{AllPairs, count_by, sum_by}
+use Rattle.std.proofs.lemmas.List.{take-append-drop}
+use Rattle.std.proofs.lemmas.Option.{same_Some, slice_get_within, get_or_from_slice_get, slice_get-get_or}
 use Rattle.std.proofs.lemmas.List.Sums.{sum_by-set, sum_by-drop_more}
+use Rattle.and_order.specs.Numbers.{HoldsOnce}
 
 module _ {A : Type 0} where
   pub none_past : (xs : List A) (i : ℕ) → slice_get xs i ≡ None → length xs ≤ i
@@ -79,3 +81,53 @@ module _ {A : Type 0} where
   get_inside [] i lt = absurd (omega arith)
   get_inside (x ∷ xs) zero lt = (x, refl)
   get_inside (x ∷ xs) (suc i) lt = get_inside xs i (omega arith)
+
+-- ---- lists without an item twice
+
+pub once_more : (xs : List ℕ) (x : ℕ) → HoldsOnce xs → ((at : ℕ) → slice_get xs at ≢ Some x) → HoldsOnce (xs ++ x ∷ [])
+once_more xs x once new i j y e f = elim (get_cases xs x i y e) [
+  | inl here ↦ elim (get_cases xs x j y f) [
+    | inl there ↦ once i j y here there
+    | inr there ↦ absurd (new i (here ∙ ap Some (sym there.1)))
+  ]
+  | inr here ↦ elim (get_cases xs x j y f) [
+    | inl there ↦ absurd (new j (there ∙ ap Some (sym here.1)))
+    | inr there ↦ here.0 ∙ sym there.0
+  ]
+]
+
+pub once_behind : (xs ys : List ℕ) → HoldsOnce (xs ++ ys) → HoldsOnce ys
+once_behind xs ys once i j y e f =
+    let same = once (length xs + i) (length xs + j) y (get_behind xs ys i ∙ e) (get_behind xs ys j ∙ f) in
+    omega arith
+
+pub once_dropped : (xs : List ℕ) (n : ℕ) → HoldsOnce xs → HoldsOnce (drop n xs)
+once_dropped xs n once = once_behind (take n xs) (drop n xs) (subst HoldsOnce (sym (take-append-drop n xs)) once)
+
+once_swapped : (xs ys : List ℕ) → HoldsOnce (xs ++ ys) → HoldsOnce (ys ++ xs)
+once_swapped xs ys once i j y e f = elim (get_parts ys xs i y e) [
+  | inl here ↦ elim (get_parts ys xs j y f) [
+    | inl there ↦ once_behind xs ys once i j y here there
+    | inr there ↦
+        let same : length xs + i ≡ there.0 = once (length xs + i) there.0 y (get_behind xs ys i ∙ here) (get_more xs ys there.0 y there.2) in
+        let lt = slice_get_within xs there.0 y there.2 in
+        absurd (omega arith)
+  ]
+  | inr here ↦ elim (get_parts ys xs j y f) [
+    | inl there ↦
+        let same : length xs + j ≡ here.0 = once (length xs + j) here.0 y (get_behind xs ys j ∙ there) (get_more xs ys here.0 y here.2) in
+        let lt = slice_get_within xs here.0 y here.2 in
+        absurd (omega arith)
+    | inr there ↦
+        let same : here.0 ≡ there.0 = once here.0 there.0 y (get_more xs ys here.0 y here.2) (get_more xs ys there.0 y there.2) in
+        here.1 ∙ (ap (λ (k : ℕ). length ys + k) same ∙ sym there.1)
+  ]
+]
+
+pub once_turned : (xs : List ℕ) (n : ℕ) → HoldsOnce xs → HoldsOnce (drop n xs ++ take n xs)
+once_turned xs n once = once_swapped (take n xs) (drop n xs) (subst HoldsOnce (sym (take-append-drop n xs)) once)
+
+pub once_apart : (xs : List ℕ) → HoldsOnce xs → AllPairs (λ one other. one ≢ other) xs
+once_apart xs once i j d lt within e =
+    let same : i ≡ j = once i j (get_or xs j d) (slice_get-get_or xs i d (omega arith) ∙ ap Some e) (slice_get-get_or xs j d within) in
+    absurd (omega arith)

@@ -1,12 +1,13 @@
 -- Lines that are ready before and after one more variable has a number.
-use Rattle.std.proofs.Common.{◌≡◌, ◌≢◌, ◌⊎◌, inl, inr, ◌∙◌, ◌/◌, ◌==◌, ℕ, Bool, true, false, cond, refl, ap, sym, subst, arith, List, [], ◌∷◌, ◌++◌, Some}
+use Rattle.std.proofs.Common.{◌≡◌, ◌≢◌, ◌⊎◌, inl, inr, ◌∙◌, ◌/◌, ◌≤◌, ◌==◌, ℕ, Bool, true, false, cond, refl, ap, sym, subst, arith, List, [], ◌∷◌, ◌++◌, Some}
 use Rattle.std.specs.Prelude.{slice_get, map}
-use Rattle.std.specs.Ordering.{nat_cmp, is_eq}
+use Rattle.std.specs.Ordering.{nat_cmp, is_eq, is_gt}
 use Rattle.std.specs.Prelude.{nat_lt}
 use Rattle.std.specs.declared.cmp.Ordering.TheVariants.{Less, Equal, Greater}
 use Rattle.std.proofs.lemmas.Bool.{eqb-true, le-ltb, eq-eqb}
 use Rattle.std.specs.BTreeMap.{is_at}
-use Rattle.std.specs.BTreeSet.{BTreeSet, contains, Updates}
+use Rattle.std.specs.BTreeSet.{BTreeSet, contains, Updates, IsLowerBound}
+use Rattle.std.proofs.lemmas.Bool.Decides.{nat_tests}
 use Rattle.std.proofs.lemmas.Option.{slice_get-map}
 use Rattle.golden_aig.specs.declared.graph.And.{And}
 use Rattle.and_order.specs.Numbers.{Known}
@@ -79,3 +80,10 @@ left old new k q u has = go (is_at (nat_cmp k) q) refl (u.0 q) where
   go : (t : Bool) → is_at (nat_cmp k) q ≡ t → contains nat_cmp new q ≡ cond (is_at (nat_cmp k) q) false (contains nat_cmp old q) → (q ≡ k) ⊎ Has new q
   go true e at = inl (sym (at_same k q e))
   go false e at = inr (at ∙ (rw e refl ∙ has))
+
+not_above : (k q : ℕ) → is_gt (nat_cmp k q) ≡ false → k ≤ q
+not_above k q e = grind (arith, nat_tests)
+
+-- the least line of a set
+pub least_line : (set : BTreeSet ℕ) (k q : ℕ) → IsLowerBound nat_cmp set k → Has set q → k ≤ q
+least_line set k q least has = not_above k q (least q has)

@@ -1,7 +1,13 @@
 -- Listings and their graphs.
-use Rattle.std.proofs.Common.{◌≡◌, inl, inr, ◌∙◌, ◌<◌, ◌≤◌, ◌+◌, ◌*◌, ◌/◌, ◌%◌, ℕ, zero, suc, refl, ap, sym, subst, arith, List, [], ◌∷◌, ◌++◌, length, Option, Some}
+use Rattle.std.proofs.Common.{◌≡◌, inl, inr, ◌∙◌, ◌<◌, ◌≤◌, ◌+◌, ◌*◌, ◌/◌, ◌%◌, ◌==◌, ℕ, zero, suc, true, refl, ap, sym, subst, arith, List, [], ◌∷◌, ◌++◌, length, length-append, get_or, Option, Some}
 use Rattle.std.specs.Prelude.{slice_get, slice_index_or, map}
-use Rattle.std.specs.List.{All}
+use Rattle.std.specs.List.{All, list_any}
+use Rattle.std.proofs.Math.Dec.{eqb}
+use Rattle.std.proofs.lemmas.Bool.{eqb-true}
+use Rattle.std.proofs.lemmas.Bool.Decides.{eqb_tells}
+use Rattle.std.proofs.lemmas.Map.Keys.{IsDistinct-from_apart}
+use Rattle.std.proofs.lemmas.Map.Steps.{length-le_from_distinct_below}
+use Rattle.std.proofs.lemmas.Map.Views.{Contains-from_any}
 use Rattle.std.proofs.lemmas.List.{length-map}
 use Rattle.std.proofs.lemmas.Option.{same_Some, slice_get_within, slice_get-map, get_or_from_slice_get, slice_get-get_or}
 use Rattle.golden_aig.specs.declared.graph.And.{And}
@@ -11,9 +17,9 @@ use Rattle.and_order.specs.declared.listing.Listing.{Listing}
 use Rattle.and_order.specs.Numbers.{Known, IsNumbering, file_literal, file_and}
 use Rattle.and_order.specs.Listing.{IsDefined, IsListing, AreLines, defined_by}
 use Rattle.and_order.specs.Sorted.{IsSorted, first_names}
-use Rattle.and_order.specs.Renaming.{Renames, HasNoGraph}
+use Rattle.and_order.specs.Renaming.{Renames, TakesFirst, HasNoGraph}
 use Rattle.and_order.specs.Ring.{IsFed, AreFed, Uses, IsChain, IsRing}
-use Rattle.and_order.proofs.Lists.{get_more, get_behind, get_parts, get_inside}
+use Rattle.and_order.proofs.Lists.{get_more, get_behind, get_parts, get_inside, once_apart}
 use Rattle.and_order.proofs.ReadyLines.{one_line}
 use Rattle.and_order.proofs.SortedLines.{sorted_count}
 
@@ -43,6 +49,23 @@ lines_ok listing ok = record {
       let same = ok.once (length listing.inputs + here) (length listing.inputs + there) item (shift here one) (shift there other) in
       omega arith;
 }
+
+-- each line defines another even literal, so there are not many
+pub few_lines : (listing : Listing) → IsListing listing → length listing.ands ≤ 2000001
+few_lines listing ok =
+    let defined = defined_by listing.inputs listing.ands in
+    let apart = once_apart defined ok.once in
+    let small = ok.size in
+    let below : (q : ℕ) → list_any (λ y. q == y) defined ≡ true → q < 2000001 = λ q has.
+    let there = Contains-from_any (λ x y e. eqb-true x y e) q defined has in
+    let d = ok.definitions there.0 q (slice_get-get_or defined there.0 q there.1 ∙ ap Some there.2) in
+    let even = d.1 in
+    let high = d.3 in
+    omega arith in
+    let count = length-le_from_distinct_below defined 2000001 (IsDistinct-from_apart eqb defined (λ i j d lt within. elim (eqb_tells (get_or defined i d) (get_or defined j d)) [ inl same ↦ absurd (apart i j d lt within same.1) | inr other ↦ other.0 ])) below in
+    let whole = length-append listing.inputs (map (λ (one : And). one.lhs) listing.ands) in
+    let lines = length-map listing.ands (λ (one : And). one.lhs) in
+    omega arith
 
 -- the numbers of inputs
 input_named : (inputs others : List ℕ) (place literal : ℕ) → slice_get inputs place ≡ Some literal → slice_get (first_names inputs ++ others) (suc place) ≡ Some (literal / 2)
@@ -124,9 +147,9 @@ module _ (listing : Listing) (aig : Aig) (names : List ℕ) (graph : IsAig aig) 
       (one.0, rest.1, one.2, rest.3, omega arith)
 
   no_ring : (ring : List ℕ) → ¬ IsRing listing.ands ring
-  no_ring [] ring = ring
+  no_ring [] ring = ring.round
   no_ring (l ∷ others) ring =
-      let down = chain_falls others l l ring.0 in
+      let down = chain_falls others l l ring.round in
       let same : down.0 ≡ down.1 = r.one_to_one down.0 down.1 (l / 2) down.2 down.3 in
       let lt = down.4 in
       absurd (omega arith)
@@ -225,3 +248,7 @@ renaming_made listing names numbers ands outputs ok n s done same = record {
   in_names = refl;
   out_names = refl;
 }
+
+-- the graph takes the first line that is ready
+pub order_made : (listing : Listing) (names : List ℕ) (ands : List And) (outputs : List ℕ) → IsSorted listing.inputs listing.ands names ands → TakesFirst listing (made listing ands outputs) names
+order_made listing names ands outputs s place line earlier one is at ready = s.first place line earlier one is at ready

@@ -1,5 +1,5 @@
 -- Steps from line to line, and rings.
-use Rattle.std.proofs.Common.{◌≡◌, ◌≢◌, ◌⊎◌, inl, inr, ◌∙◌, ◌<◌, ◌≤◌, ◌+◌, ◌/◌, ◌==◌, ℕ, Bool, true, false, zero, suc, refl, ap, sym, subst, arith, List, [], ◌∷◌, ◌++◌, length, length-set, append_assoc, take, drop, length-drop, ◌-◌, get_or, Option, Some}
+use Rattle.std.proofs.Common.{◌≡◌, ◌≢◌, ◌⊎◌, inl, inr, ◌∙◌, ◌<◌, ◌≤◌, ◌+◌, ◌/◌, ◌==◌, ℕ, Bool, true, false, zero, suc, refl, ap, sym, subst, arith, List, [], ◌∷◌, ◌++◌, length, length-set, append_assoc, take, drop, length-drop, ◌-◌, get_or, Option, None, Some}
 use Rattle.std.specs.Prelude.{slice_get, slice_set, slice_index}
 use Rattle.std.specs.List.{All}
 use Rattle.std.proofs.lemmas.Bool.{eqb-true, eqb-false}
@@ -7,10 +7,10 @@ use Rattle.std.proofs.lemmas.List.{append-nil, get_or_default}
 use Rattle.std.proofs.lemmas.List.Elements.{All-append, All-take, All-drop}
 use Rattle.std.proofs.lemmas.Option.{same_Some, slice_get_within, get_or_from_slice_get}
 use Rattle.golden_aig.specs.declared.graph.And.{And}
-use Rattle.and_order.specs.Numbers.{Known}
+use Rattle.and_order.specs.Numbers.{Known, HoldsOnce}
 use Rattle.and_order.specs.Listing.{AreLines}
-use Rattle.and_order.specs.Ring.{IsLeft, IsFed, AreDefiners, IsStep, Uses, IsChain, IsRing}
-use Rattle.and_order.proofs.Lists.{get_more, get_last, set_same, set_other}
+use Rattle.and_order.specs.Ring.{IsLeft, IsFed, AreDefiners, IsStep, Uses, IsChain, GoesRound, BeginsAtLeast, IsRing}
+use Rattle.and_order.proofs.Lists.{get_more, get_last, get_cases, set_same, set_other, once_turned, once_apart}
 use Rattle.and_order.proofs.ReadyLines.{one_line}
 
 pub definers_more : (top n : ℕ) (lines : List And) (definers : List ℕ) (one : And) → AreLines top lines → AreDefiners top n lines definers → slice_get lines n ≡ Some one
@@ -90,15 +90,18 @@ drop_at (x ∷ xs) (suc m) lt = drop_at xs m (omega arith)
 all_from : (least : ℕ) (xs : List ℕ) → ((at : ℕ) → at < length xs → least ≤ slice_index xs at) → All (λ literal. least ≤ literal) xs
 all_from least xs low k d lt = let le = low k lt in let same = get_or_default xs k d 0 lt in omega arith
 
-pub turn : (lines : List And) (xs : List ℕ) (m : ℕ) → m < length xs → IsChain lines (xs ++ slice_index xs 0 ∷ []) → ((at : ℕ) → at < length xs → slice_index xs m ≤ slice_index xs at)
+pub turn : (lines : List And) (xs : List ℕ) (m : ℕ) → m < length xs → IsChain lines (xs ++ slice_index xs 0 ∷ []) → HoldsOnce xs → ((at : ℕ) → at < length xs → slice_index xs m ≤ slice_index xs at)
     → IsRing lines (drop m xs ++ take m xs)
-turn lines xs m lt chain least =
+turn lines xs m lt chain once least =
     let low : ℕ → Type 0 = λ literal. slice_index xs m ≤ literal in
     let all = all_from (slice_index xs m) xs least in
-    subst (λ (ys : List ℕ). IsRing lines (ys ++ take m xs)) (sym (drop_at xs m lt)) (
-      turned lines (take m xs) (slice_index xs m) (drop (suc m) xs) (slice_index xs 0) (ap (λ (ys : List ℕ). slice_index ys 0) (sym (split_at xs m lt))) (subst (λ (ys : List ℕ). IsChain lines (ys ++ slice_index xs 0 ∷ [])) (split_at xs m lt) chain),
-      All-append low (drop (suc m) xs) (take m xs) (All-drop low (suc m) xs all) (All-take low m xs all),
-    )
+    let begins = drop_at xs m lt in
+    record {
+      round = subst (λ (ys : List ℕ). GoesRound lines (ys ++ take m xs)) (sym begins)
+          (turned lines (take m xs) (slice_index xs m) (drop (suc m) xs) (slice_index xs 0) (ap (λ (ys : List ℕ). slice_index ys 0) (sym (split_at xs m lt))) (subst (λ (ys : List ℕ). IsChain lines (ys ++ slice_index xs 0 ∷ [])) (split_at xs m lt) chain));
+      least = subst (λ (ys : List ℕ). BeginsAtLeast (ys ++ take m xs)) (sym begins) (All-append low (drop (suc m) xs) (take m xs) (All-drop low (suc m) xs all) (All-take low m xs all));
+      once = once_apart (drop m xs ++ take m xs) (once_turned xs m once);
+    }
 
 pub chain_dropped : (lines : List And) (xs : List ℕ) (n x : ℕ) → n ≤ length xs → IsChain lines (xs ++ x ∷ []) → IsChain lines (drop n xs ++ x ∷ [])
 chain_dropped lines xs zero x le chain = chain
@@ -129,6 +132,29 @@ met_more lines path met place one is lt old line at each seen there = go (line =
   go false e =
       let ne : line ≢ place = eqb-false line place e in
       get_more path (one.lhs ∷ []) at each.lhs (old line at each (sym (set_other met place line (Some (length path)) (λ same. ne (sym same))) ∙ seen) there)
+
+-- each line whose literal is on the path was met there
+abbrev pub AreSeen : List And → List ℕ → List (Option ℕ) → Type 0
+AreSeen lines path met = (line at : ℕ) (one : And) → slice_get path at ≡ Some one.lhs → slice_get lines line ≡ Some one → slice_get met line ≡ Some (Some at)
+
+pub seen_more : (top : ℕ) (lines : List And) (path : List ℕ) (met : List (Option ℕ)) (place : ℕ) (one : And) → AreLines top lines → slice_get lines place ≡ Some one → slice_get met place ≡ Some None → AreSeen lines path met
+    → AreSeen lines (path ++ one.lhs ∷ []) (slice_set met place (Some (length path)))
+seen_more top lines path met place one ok is unmet old line at each on there = elim (get_cases path one.lhs at each.lhs on) [
+  | inl before ↦
+      let entry = old line at each before there in
+      let apart : place ≢ line = λ same. (let both : Some None ≡ Some (Some at) = sym unmet ∙ (ap (slice_get met) same ∙ entry) in absurd cc) in
+      set_other met place line (Some (length path)) apart ∙ entry
+  | inr last ↦
+      let same : place ≡ line = one_line top lines place line one each ok is there (ap (λ (x : ℕ). x / 2) last.1) in
+      let inside = slice_get_within met place None unmet in
+      ap (slice_get (slice_set met place (Some (length path)))) (sym same) ∙ (set_same met place (Some (length path)) inside ∙ ap (λ (n : ℕ). Some (Some n)) (sym last.0))
+]
+
+-- the literal of a line that was not met is new on the path
+pub unmet_new : (lines : List And) (path : List ℕ) (met : List (Option ℕ)) (place at : ℕ) (one : And) → slice_get lines place ≡ Some one → slice_get met place ≡ Some None → AreSeen lines path met → slice_get path at ≢ Some one.lhs
+unmet_new lines path met place at one is unmet old on =
+    let both : Some None ≡ Some (Some at) = sym unmet ∙ old place at one on is in
+    absurd cc
 
 -- a step leads on from the last literal of the path
 pub walked : (lines : List And) (path : List ℕ) (place next : ℕ) (one other : And) → slice_get lines place ≡ Some one → slice_get lines next ≡ Some other → IsStep lines place next → IsChain lines (path ++ one.lhs ∷ [])

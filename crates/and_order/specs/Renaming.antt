@@ -1,5 +1,5 @@
 -- Graphs that are a listing with other numbers of variables.
-use Rattle.std.specs.Prelude.{◌≡◌, ℕ, ◌+◌, ◌*◌, List, map, length, slice_get, Some}
+use Rattle.std.specs.Prelude.{◌≡◌, ℕ, ◌+◌, ◌*◌, ◌≤◌, List, map, take, length, slice_get, Some}
 use Rattle.golden_aig.specs.declared.graph.Aig.{Aig}
 use Rattle.golden_aig.specs.declared.graph.And.{And}
 use Rattle.golden_aig.specs.Aig.{IsAig, variables_of}
@@ -7,6 +7,7 @@ use Rattle.and_order.specs.declared.listing.Listing.{Listing}
 use Rattle.and_order.specs.declared.listing.OrderFault.{OrderFault}
 use Rattle.and_order.specs.declared.listing.OrderFault.TheVariants as fault
 use Rattle.and_order.specs.Numbers.{HoldsOnce, file_literal, file_and}
+use Rattle.and_order.specs.Ready.{IsReady}
 use Rattle.and_order.specs.Ring.{IsRing}
 
 -- The listing is the graph written with other names of its variables, one to one: the constant keeps its own, the inputs stand in order, and the ANDs are the lines, in any order.
@@ -24,6 +25,19 @@ pub record Renames (listing : Listing) (aig : Aig) (names : List ℕ) : Type 0 w
 
 abbrev pub IsRenaming : Listing → Aig → Type 0
 IsRenaming listing aig = (names : List ℕ) × Renames listing aig names
+
+-- The AND that is numbered next is always that of the first line which is ready: its operands have numbers, and its literal has none.
+abbrev pub TakesFirst : Listing → Aig → List ℕ → Type 0
+TakesFirst listing aig names =
+    (place line earlier : ℕ) (one : And) → slice_get aig.ands place ≡ Some one → slice_get listing.ands line ≡ Some (file_and names one) → IsReady (take (aig.inputs + place + 1) names) listing.ands earlier → line ≤ earlier
+
+-- the renaming whose ANDs stand in the order in which their lines become ready, and of those that are ready together in the order of the file
+abbrev pub IsOrdered : Listing → Aig → Type 0
+IsOrdered listing aig = (names : List ℕ) × Renames listing aig names × TakesFirst listing aig names
+
+-- there is one at most
+abbrev pub IsOneGraph : Type 0
+IsOneGraph = (listing : Listing) (one other : Aig) → IsAig one → IsAig other → IsOrdered listing one → IsOrdered listing other → one ≡ other
 
 -- no graph has this listing
 abbrev pub HasNoGraph : Listing → Type 0

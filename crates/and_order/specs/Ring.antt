@@ -1,6 +1,6 @@
 -- ANDs that use each other in a ring.
-use Rattle.std.specs.Prelude.{◌≡◌, ℕ, ◌+◌, ◌*◌, ◌/◌, ◌<◌, ◌≤◌, ◌⊎◌, length, List, [], ◌∷◌, ◌++◌, slice_get, Some}
-use Rattle.std.specs.List.{All}
+use Rattle.std.specs.Prelude.{◌≡◌, ℕ, ◌+◌, ◌*◌, ◌/◌, ◌<◌, ◌≤◌, ◌≢◌, ◌⊎◌, length, List, [], ◌∷◌, ◌++◌, slice_get, Some}
+use Rattle.std.specs.List.{All, AllPairs}
 use Rattle.golden_aig.specs.declared.graph.And.{And}
 use Rattle.and_order.specs.Numbers.{Known}
 
@@ -14,10 +14,21 @@ IsChain lines [] = Unit {0}
 IsChain lines (literal ∷ []) = Unit {0}
 IsChain lines (literal ∷ next ∷ more) = Uses lines literal next × IsChain lines (next ∷ more)
 
--- Each literal uses the next one, and the last uses the first, which is the least.
-abbrev pub IsRing : List And → List ℕ → Type 0
-IsRing lines [] = ⊥
-IsRing lines (first ∷ others) = IsChain lines (first ∷ others ++ first ∷ []) × All (λ literal. first ≤ literal) others
+-- each literal uses the next one, and the last uses the first
+abbrev pub GoesRound : List And → List ℕ → Type 0
+GoesRound lines [] = ⊥
+GoesRound lines (first ∷ others) = IsChain lines (first ∷ others ++ first ∷ [])
+
+-- no literal is below the first
+abbrev pub BeginsAtLeast : List ℕ → Type 0
+BeginsAtLeast [] = ⊥
+BeginsAtLeast (first ∷ others) = All (λ literal. first ≤ literal) others
+
+-- Each literal uses the next one, and the last uses the first, which is the least. Each stands once, so the ring goes round once.
+pub record IsRing (lines : List And) (ring : List ℕ) : Type 0 where
+  pub round : GoesRound lines ring
+  pub least : BeginsAtLeast ring
+  pub once : AllPairs (λ one other. one ≢ other) ring
 
 -- ---- how one is found
 

@@ -1,8 +1,9 @@
 -- ANDs that were made from lines, in an order of use.
-use Rattle.std.specs.Prelude.{◌≡◌, ℕ, ◌*◌, ◌/◌, ◌<◌, List, ◌∷◌, [], ◌++◌, map, length, slice_get, Some}
+use Rattle.std.specs.Prelude.{◌≡◌, ℕ, ◌+◌, ◌*◌, ◌/◌, ◌<◌, ◌≤◌, List, ◌∷◌, [], ◌++◌, map, take, length, slice_get, Some}
 use Rattle.golden_aig.specs.declared.graph.And.{And}
 use Rattle.golden_aig.specs.Aig.{IsAndAt}
 use Rattle.and_order.specs.Numbers.{file_and}
+use Rattle.and_order.specs.Ready.{IsReady}
 
 -- An AND has the next number, uses lower ones, and stands for a line.
 pub record IsBuilt (names : List ℕ) (line one : And) : Type 0 where
@@ -15,9 +16,10 @@ pub record IsBuilt (names : List ℕ) (line one : And) : Type 0 where
 abbrev pub first_names : List ℕ → List ℕ
 first_names inputs = 0 ∷ map (λ literal. literal / 2) inputs
 
--- Each AND has the number of its place, uses lower ones, and stands for a line.
+-- Each AND has the number of its place, uses lower ones, and stands for a line: the first of those that are ready when it is numbered.
 pub record IsSorted (inputs : List ℕ) (lines : List And) (names : List ℕ) (ands : List And) : Type 0 where
   pub others : List ℕ
   pub parts : names ≡ first_names inputs ++ others
   pub count : length others ≡ length ands
   pub built : (place : ℕ) (one : And) → slice_get ands place ≡ Some one → IsAndAt (length inputs) place one × ((line : ℕ) × (slice_get lines line ≡ Some (file_and names one)))
+  pub first : (place line earlier : ℕ) (one : And) → slice_get ands place ≡ Some one → slice_get lines line ≡ Some (file_and names one) → IsReady (take (length inputs + place + 1) names) lines earlier → line ≤ earlier

@@ -4,6 +4,7 @@
 //! operands are numbered. Where ANDs use each other in a ring there is no graph, and a ring is answered.
 #![tactic(auto)]
 
+mod laws;
 mod listing;
 mod numbering;
 mod ready;
@@ -12,5 +13,9 @@ mod ring;
 mod sorting;
 mod users;
 
+pub use laws::one_graph_is_ordered;
 pub use listing::{Listing, OrderFault};
 pub use renaming::renumber;
+
+#[cfg(test)]
+mod tests;

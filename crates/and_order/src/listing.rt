@@ -30,7 +30,7 @@ pub struct Listing {
 /// Why there is no order of use.
 #[derive(Debug, Drop, Error)]
 pub enum OrderFault {
-    /// The literals of ANDs in a ring: each uses the next one, and the last the first, which is the least.
+    /// The literals of ANDs in a ring, each once: each uses the next one, and the last the first, which is the least.
     #[error("cycle")]
     Cycle(List<u32>),
     /// Memory could not be had.

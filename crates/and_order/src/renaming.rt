@@ -1,11 +1,11 @@
 //! The graph of a listing.
 
-ghost use Rattle.std.specs.Prelude.{◌≡◌, ◌<◌, ◌≤◌, ◌/◌, ◌^◌, ℕ, length, map, slice_get, Some, IfOk, IfErr};
+ghost use Rattle.std.specs.Prelude.{◌≡◌, ◌<◌, ◌≤◌, ◌/◌, ℕ, length, map, slice_get, Some, IfOk, IfErr};
 ghost use Rattle.std.specs.List.{All};
 ghost use Rattle.golden_aig.specs.Aig.{IsAig};
 ghost use Rattle.and_order.specs.Numbers.{Known, Numbers, file_literal};
 ghost use Rattle.and_order.specs.Listing.{IsListing};
-ghost use Rattle.and_order.specs.Renaming.{IsRenaming, IsOrderFault};
+ghost use Rattle.and_order.specs.Renaming.{IsRenaming, IsOrdered, IsOrderFault};
 
 use crate::listing::{Listing, OrderFault};
 use crate::numbering::Numbering;
@@ -44,9 +44,9 @@ fn renumber_all(
 /// `Cycle` where ANDs use each other in a ring; no graph has such a listing. `Memory` may come of any listing.
 pub fn renumber(alloc: Global, listing: Listing) -> Result<Aig, OrderFault>
     requires listing { IsListing listing }
-    requires few { length listing.ands < 2 ^ 32 }
     ensures graph { IfOk result IsAig }
     ensures renaming { IfOk result (IsRenaming listing) }
+    ensures order { IfOk result (IsOrdered listing) }
     ensures fault { IfErr result (IsOrderFault listing) }
 {
     let top = listing.top;

@@ -3,7 +3,7 @@
 ghost use Rattle.std.specs.Prelude.{◌≡◌, ◌<◌, ◌≤◌, ◌/◌, ◌^◌, ◌⊎◌, ◌++◌, ◌∷◌, [], ℕ, true, false, None, length, drop, replicate, slice_get, slice_index, Some, IfOk, IfSome, IfNone, OnOk};
 ghost use Rattle.std.specs.List.{All};
 ghost use Rattle.golden_aig.specs.declared.graph.And.{And};
-ghost use Rattle.and_order.specs.Numbers.{Known, Numbers};
+ghost use Rattle.and_order.specs.Numbers.{Known, HoldsOnce, Numbers};
 ghost use Rattle.and_order.specs.Listing.{AreLines};
 ghost use Rattle.and_order.specs.Ready.{IsReady};
 ghost use Rattle.and_order.specs.Ring.{IsLeft, AreFed, AreDefiners, IsStep, IsChain, IsRing};
@@ -98,7 +98,7 @@ fn find_least(items: &[u32]) -> usize
     best
 }
 
-/// A ring that begins at its least literal, from a path whose last literal uses the one at a place.
+/// A ring that begins at its least literal, from a path without a literal twice whose last literal uses the one at a place.
 fn turn_ring(
     alloc: Global,
     lines: &[And],
@@ -106,6 +106,7 @@ fn turn_ring(
     begin: usize,
 ) -> Result<List<u32>, NoMemory>
     requires inside { begin < length path.now }
+    requires once { HoldsOnce path.now }
     requires closed { IsChain lines.now (path.now ++ slice_index path.now begin ∷ []) }
     ensures { IfOk result (IsRing lines.now) }
 {

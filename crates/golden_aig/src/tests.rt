@@ -5,7 +5,8 @@ ghost use Rattle.rsfq_ids.specs.declared.circuit.PortUse.TheVariants as used;
 ghost use Rattle.rsfq_ids.specs.WellFormed.{AreDistinct, IsBench};
 ghost use Rattle.golden_aig.specs.Aig.{IsAig};
 
-use crate::graph::Aig;
+use crate::evaluation::eval;
+use crate::graph::{Aig, And};
 use crate::matching::match_ports;
 use rsfq_ids::circuit::{Bench, Flat, PortBit, PortUse, Strobe};
 use rsfq_ids::id::{Id, PortId};
@@ -177,6 +178,60 @@ fn sides_are_matched(rt: HostRuntime) -> Result<(), Fail> {
     for (in_names, out_names, wanted) in cases {
         let text = describe(rt.alloc(), in_names, out_names)?;
         assert_eq!(rt; text.as_str(), wanted);
+    }
+    Ok(())
+}
+
+/// The ANDs 6 of the input 2 and the negated input 4, and 8 of the negated 6 and the input 4.
+fn make_ands(alloc: Global) -> Result<List<And>, NoMemory>
+    ensures { IfOk result (λ ands. ands ≡ record { lhs = 6; rhs0 = 2; rhs1 = 5 } ∷ record { lhs = 8; rhs0 = 7; rhs1 = 4 } ∷ []) }
+{
+    let mut ands = List::new(alloc);
+    ands.push(And {
+        lhs: 6,
+        rhs0: 2,
+        rhs1: 5,
+    })?;
+    ands.push(And {
+        lhs: 8,
+        rhs0: 7,
+        rhs1: 4,
+    })?;
+    Ok(ands)
+}
+
+/// A graph with these ANDs, whose outputs are the negated first input, the second AND and the negated first one.
+fn make_gates(alloc: Global) -> Result<Aig, NoMemory>
+    ensures graph { IfOk result IsAig }
+    ensures size { IfOk result (λ aig. (aig.inputs ≡ 2) × (length aig.ands ≡ 2) × (length aig.outputs ≡ 3)) }
+{
+    let mut outputs = List::new(alloc);
+    outputs.push(3)?;
+    outputs.push(8)?;
+    outputs.push(7)?;
+    Ok(Aig {
+        inputs: 2,
+        ands: make_ands(alloc)?,
+        outputs,
+        in_names: make_entries(alloc, &["", ""])?,
+        out_names: make_entries(alloc, &["", "", ""])?,
+    })
+}
+
+#[test]
+fn a_graph_has_values(rt: HostRuntime) -> Result<(), Fail> {
+    let aig = make_gates(rt.alloc())?;
+    let mut marks = [false; 4];
+    let mut values = [false; 3];
+    let cases = [
+        ([false, false], [true, false, true]),
+        ([true, false], [false, false, false]),
+        ([false, true], [true, true, true]),
+        ([true, true], [false, true, true]),
+    ];
+    for (word, wanted) in cases {
+        eval(&aig, &word, &mut marks, &mut values);
+        assert_eq!(rt; values, wanted);
     }
     Ok(())
 }

@@ -1,16 +1,19 @@
-use Rattle.std.proofs.Common.{◌≡◌, ◌∙◌, ℕ, List, length, sym, ap, subst}
+use Rattle.std.proofs.Common.{◌≡◌, ◌∙◌, ℕ, List, length, sym, ap, subst, arith}
 use Rattle.std.proofs.lemmas.List.{length-map}
 use Rattle.golden_aig.specs.declared.graph.And.{And}
 use Rattle.golden_aig.specs.Aig.{IsAig}
 use Rattle.and_order.specs.Numbers.{file_literal}
 use Rattle.and_order.specs.Listing.{AreLines}
-use Rattle.and_order.specs.Renaming.{IsRenaming}
+use Rattle.and_order.specs.Renaming.{IsRenaming, IsOrdered}
 use Rattle.and_order.specs.Ring.{AreFed, IsRing}
-use Rattle.and_order.proofs.Renamings.{lines_ok, all_fed, all_known, no_graph, graph_made, renaming_made}
+use Rattle.and_order.proofs.Renamings.{lines_ok, few_lines, all_fed, all_known, no_graph, graph_made, renaming_made, order_made}
 use Rattle.and_order.proofs.renaming.renumber.Goals as goal
 
 pub sort_lines-requires-clause-lines : goal.sort_lines-requires-clause-lines
 sort_lines-requires-clause-lines c = subst (AreLines c.args.listing.top) (sym c.as_slice-lines.ensures) (lines_ok c.args.listing c.requires.listing)
+
+pub sort_lines-requires-clause-few : goal.sort_lines-requires-clause-few
+sort_lines-requires-clause-few c = let few = few_lines c.args.listing c.requires.listing in rw c.as_slice-lines.ensures (omega arith)
 
 pub find_left-requires-clause-lines : goal.find_left-requires-clause-lines
 find_left-requires-clause-lines c = subst (AreLines c.args.listing.top) (sym c.as_slice-lines.ensures) (lines_ok c.args.listing c.requires.listing)
@@ -58,3 +61,15 @@ returns-clause-renaming c =
     let same = c.in_ok-outputs.ensures.same ∙ c.as_slice-2.ensures in
     subst (λ (n : ℕ). IsRenaming listing (record { inputs = n; ands = sorted.ands; outputs = outputs; in_names = listing.in_names; out_names = listing.out_names })) (sym c.len.ensures)
     (sorted.numbering.names.items, renaming_made listing sorted.numbering.names.items sorted.numbering.numbers.items sorted.ands outputs c.requires.listing c.in_ok-sorted.ensures.numbers s done same)
+
+pub returns-clause-order : goal.returns-clause-order
+returns-clause-order c =
+    let listing = c.args.listing in
+    let sorted = c.in_ok-sorted.sorted in
+    let names = sorted.numbering.names.items in
+    let outputs = c.in_ok-outputs.outputs in
+    let s = rw (c.as_slice.ensures, c.as_slice-lines.ensures) at c.in_ok-sorted.ensures.sorted in
+    let done = rw c.as_slice-lines.ensures at c.in_default.ensures.none in
+    let same = c.in_ok-outputs.ensures.same ∙ c.as_slice-2.ensures in
+    subst (λ (n : ℕ). IsOrdered listing (record { inputs = n; ands = sorted.ands; outputs = outputs; in_names = listing.in_names; out_names = listing.out_names })) (sym c.len.ensures)
+    (names, renaming_made listing names sorted.numbering.numbers.items sorted.ands outputs c.requires.listing c.in_ok-sorted.ensures.numbers s done same, order_made listing names sorted.ands outputs s)

@@ -3,9 +3,10 @@ use Rattle.std.specs.Prelude.{slice_get, slice_set, is_none}
 use Rattle.std.specs.List.{count_by}
 use Rattle.std.proofs.lemmas.Option.{slice_get_within, slice_get_read, get_or_from_slice_get}
 use Rattle.golden_aig.specs.declared.graph.And.{And}
+use Rattle.and_order.specs.Numbers.{HoldsOnce}
 use Rattle.and_order.specs.Ring.{IsChain}
-use Rattle.and_order.proofs.Lists.{count_set}
-use Rattle.and_order.proofs.Rings.{met_place, met_more, walked}
+use Rattle.and_order.proofs.Lists.{count_set, once_more}
+use Rattle.and_order.proofs.Rings.{met_place, met_more, seen_more, unmet_new, walked}
 use Rattle.and_order.proofs.ring.find_ring.Goals as goal
 
 none : And
@@ -29,6 +30,9 @@ turn_ring-requires-clause-closed c =
     let entry = slice_get_read met (length met) c.walk.place c.index.result.now refl (omega arith) c.index.ensures ∙ ap Some c.in-Some.is in
     let at = (met_place c.args.lines.now c.walk.path.items met c.walk.place c.in-Some.begin left.0 c.walk.invariant.met entry left.1).1 in
     rw c.as_slice.ensures.value (subst (λ (x : ℕ). IsChain c.args.lines.now (c.walk.path.items ++ x ∷ [])) (sym at) (c.walk.invariant.chain left.0 left.1))
+
+pub turn_ring-requires-clause-once : goal.turn_ring-requires-clause-once
+turn_ring-requires-clause-once c = rw c.as_slice.ensures.value c.walk.invariant.once
 
 pub index_mut-requires : goal.index_mut-requires
 index_mut-requires c =
@@ -62,6 +66,7 @@ walk-preserved c =
     let size = c.walk.invariant.size in
     let line = get_or_from_slice_get lines place left.0 none left.1 in
     let count : c.len.result ≡ length path = omega (arith, c.walk.path.ok.0, c.len.ensures) in
+    let entry : slice_get met place ≡ Some None = slice_get_read met (length met) place c.index.result.now refl (omega arith) c.index.ensures ∙ ap Some c.in_default.is in
     let pushed : c.push.new.self.items ≡ path ++ left.0.lhs ∷ [] = c.in_ok-push.ensures.items ∙ ap (λ (g : And). path ++ g.lhs ∷ []) line in
     record {
       left = c.step-place.ensures.left;
@@ -69,4 +74,7 @@ walk-preserved c =
       chain = λ one is. subst (λ (p : List ℕ). IsChain lines (p ++ one.lhs ∷ [])) (sym pushed) (walked lines path place c.step-place.result left.0 one left.1 is c.step-place.ensures.step (c.walk.invariant.chain left.0 left.1));
       met = λ l at one seen is. subst (λ (p : List ℕ). slice_get p at ≡ Some one.lhs) (sym pushed)
           (met_more lines path met place left.0 left.1 (omega arith) c.walk.invariant.met l at one (subst (λ (n : ℕ). slice_get (slice_set met place (Some n)) l ≡ Some (Some at)) count seen) is);
+      seen = λ l at one on is. subst (λ (n : ℕ). slice_get (slice_set met place (Some n)) l ≡ Some (Some at)) (sym count)
+          (seen_more c.args.top lines path met place left.0 c.requires.lines left.1 entry c.walk.invariant.seen l at one (subst (λ (p : List ℕ). slice_get p at ≡ Some one.lhs) pushed on) is);
+      once = subst HoldsOnce (sym pushed) (once_more path left.0.lhs c.walk.invariant.once (λ at. unmet_new lines path met place at left.0 left.1 entry c.walk.invariant.seen));
     }

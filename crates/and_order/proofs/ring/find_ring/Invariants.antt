@@ -2,6 +2,7 @@ use Rattle.std.proofs.Common.{◌≡◌, ◌++◌, ◌∷◌, [], ℕ, length, S
 use Rattle.std.specs.Prelude.{slice_get, is_none}
 use Rattle.std.specs.List.{count_by}
 use Rattle.golden_aig.specs.declared.graph.And.{And}
+use Rattle.and_order.specs.Numbers.{HoldsOnce}
 use Rattle.and_order.specs.Ring.{IsLeft, IsChain}
 use Rattle.and_order.proofs.ring.find_ring.Given as goal
 
@@ -11,6 +12,8 @@ invariant-walk l = record {
   size : length l.met.items ≡ length l.lines;
   chain : (one : And) → slice_get l.lines l.place ≡ Some one → IsChain l.lines (l.path.items ++ one.lhs ∷ []);
   met : (line at : ℕ) (one : And) → slice_get l.met.items line ≡ Some (Some at) → slice_get l.lines line ≡ Some one → slice_get l.path.items at ≡ Some one.lhs;
+  seen : (line at : ℕ) (one : And) → slice_get l.path.items at ≡ Some one.lhs → slice_get l.lines line ≡ Some one → slice_get l.met.items line ≡ Some (Some at);
+  once : HoldsOnce l.path.items;
 }
 
 abbrev pub decreases-walk : goal.decreases-walk

@@ -1,6 +1,8 @@
 use Rattle.std.proofs.Common.{◌≡◌, ◌++◌, ◌∷◌, [], ◌∙◌, ◌-◌, List, ℕ, length, take, drop, subst, sym, ap}
 use Rattle.std.specs.Prelude.{slice_index}
+use Rattle.and_order.specs.Numbers.{HoldsOnce}
 use Rattle.and_order.specs.Ring.{IsRing, IsChain}
+use Rattle.and_order.proofs.Lists.{once_dropped}
 use Rattle.and_order.proofs.Rings.{turn, take_rest, closed_part}
 use Rattle.and_order.proofs.ring.turn_ring.Goals as goal
 
@@ -12,6 +14,7 @@ returns c =
     let part_is : part ≡ drop begin path = take_rest path begin in
     let m = c.find_least-least.result in
     let closed = subst (λ (xs : List ℕ). IsChain c.args.lines.now (xs ++ slice_index xs 0 ∷ [])) (sym part_is) (closed_part c.args.lines.now path begin c.requires.inside c.requires.closed) in
-    let ring = turn c.args.lines.now part m c.find_least-least.ensures.inside closed c.find_least-least.ensures.least in
+    let once = subst HoldsOnce (sym part_is) (once_dropped path begin c.requires.once) in
+    let ring = turn c.args.lines.now part m c.find_least-least.ensures.inside closed once c.find_least-least.ensures.least in
     let items = c.of.ensures ∙ (c.in_ok-extend_from_slice.ensures.items ∙ ap (λ (xs : List ℕ). xs ++ take m part) (c.in_ok-ring.ensures.items ∙ take_rest part m)) in
     subst (IsRing c.args.lines.now) (sym items) ring

@@ -4,6 +4,7 @@ use Rattle.std.specs.Ordering.{nat_cmp}
 use Rattle.std.specs.BTreeMap.{is_at}
 use Rattle.golden_aig.specs.declared.graph.And.{And}
 use Rattle.and_order.proofs.Lists.{get_more}
+use Rattle.and_order.proofs.ReadyLines.{least_line}
 use Rattle.and_order.proofs.SortedLines.{none_sorted, sorted_more}
 use Rattle.and_order.proofs.sorting.sort_lines.Goals as goal
 
@@ -38,7 +39,8 @@ loop-place-preserved c =
     let old = c.loop-place.sorted in
     record {
       numbers = c.in_ok-take_line.ensures.numbers;
-      sorted = rw (taken.3, taken.4) (sorted_more c.args.inputs.now c.args.lines.now old.numbering.names.items old.ands c.in-Some.place taken.0 taken.1 c.loop-place.invariant.sorted taken.2 taken.5);
+      sorted = rw (taken.3, taken.4) (sorted_more c.args.top c.args.inputs.now c.args.lines.now old.numbering.names.items old.ands c.in-Some.place taken.0 taken.1 c.requires.lines c.loop-place.invariant.sorted taken.2 taken.5
+          (λ earlier ready. least_line c.loop-place.ready c.in-Some.place earlier c.in-Some.ensures.least (c.loop-place.invariant.all earlier ready)));
       only = c.in_ok-take_line.ensures.only;
       all = c.in_ok-take_line.ensures.all;
     }
