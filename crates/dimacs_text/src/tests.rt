@@ -1,5 +1,5 @@
 //! Texts of small formulas, byte for byte.
-use crate::{TextWhy, read_dimacs, write_dimacs};
+use crate::{TextWhy, read_dimacs, texts_say_formulas, write_dimacs};
 use rsfq_ids::circuit::Cnf;
 use rsfq_ids::id::{Id, Lit};
 use rsfq_ids::list::{List, NoMemory};
@@ -60,6 +60,7 @@ fn texts_are_read(rt: HostRuntime) -> Result<(), Fail> {
         write_dimacs(&cnf, &mut written)?;
         assert_eq!(rt; written.as_slice(), again);
     }
+    texts_say_formulas();
     Ok(())
 }
 

@@ -1,11 +1,11 @@
 -- The text of a log that has ended is accepted.
-use Rattle.std.proofs.Common.{◌≡◌, ◌∙◌, ◌<◌, ◌≤◌, ◌+◌, ◌-◌, ◌*◌, ◌/◌, ◌^◌, ◌⊎◌, ℕ, Bool, true, false, zero, suc, refl, sym, ap, ap₂, subst, arith, List, [], ◌∷◌, ◌++◌, length, map, take, get_or, inl, inr, Option, Some, None, Result, Ok, Err, decimal, append_assoc, append-nil, length-append, add-one, lt-ltb}
-use Rattle.std.specs.Prelude.{◌==◌, ◌||◌, not, nat_lt, slice_get, IsTrue, IsSomeAnd}
+use Rattle.std.proofs.Common.{◌≡◌, ◌∙◌, ◌<◌, ◌≤◌, ◌+◌, ◌-◌, ◌*◌, ◌/◌, ◌^◌, ◌⊎◌, ℕ, Bool, true, false, zero, suc, refl, sym, ap, ap₂, subst, arith, List, [], ◌∷◌, ◌++◌, length, map, take, get_or, inl, inr, Option, Some, None, Result, Ok, decimal, append_assoc, length-append, add-one}
+use Rattle.std.specs.Prelude.{◌==◌, ◌||◌, nat_lt, slice_get, IsSomeAnd}
 use Rattle.std.specs.List.{All, list_any, flat_map}
 use Rattle.std.specs.Str.{bytes_eq}
 use Rattle.std.specs.Str.Parse.{AllDigits}
-use Rattle.std.proofs.lemmas.Bool.{cases_Bool, eq-eqb}
-use Rattle.std.proofs.lemmas.Bool.Decides.{leb_tells, eqb_tells}
+use Rattle.std.proofs.lemmas.Bool.{cases_Bool}
+use Rattle.std.proofs.lemmas.Bool.Decides.{leb_tells}
 use Rattle.std.proofs.lemmas.List.Elements.{All-head, All-tail}
 use Rattle.std.proofs.lemmas.List.Folds.{list_any-append}
 use Rattle.std.proofs.lemmas.Slice.Eq.{bytes_eq-Decides}
@@ -18,17 +18,16 @@ use Rattle.proof_arena.specs.Log.{Log, LogStep, StepsHold, HasEnded}
 use Rattle.proof_arena.specs.declared.hint.HintReading.{HintReading}
 use Rattle.proof_arena.specs.declared.hint.HintReading.TheVariants.{Conflict, Passed, Unit as UnitLit, NotUnit}
 use Rattle.dimacs_text.specs.Parts.{Part, words, lines, is_newline, is_space}
-use Rattle.dimacs_text.specs.Number.{number_up_to, signed_of, literal_of}
+use Rattle.dimacs_text.specs.Number.{signed_of}
 use Rattle.dimacs_text.specs.Text.{literal_text, spaced_literal}
 use Rattle.dimacs_text.specs.declared.number.Signed.{Signed}
-use Rattle.dimacs_text.proofs.Written.{Separates, newlines, spaces, apart, or_left, or_right, part_first, word_first, literal_free, literal_some, literals_free, small_literals, signed_literal, literal_back, signed_read, signed_number, decimal_free, decimal_some, number_read, regroup}
-use Rattle.lrat_check.specs.Lines.{Line, addition, number_field, field_of, list_from, list_of, with_hints, addition_of, behind_id, with_id, fields_say, has_outer_space, line_of}
+use Rattle.dimacs_text.proofs.Written.{Separates, newlines, spaces, apart, or_left, part_first, word_first, literal_free, literal_some, literals_free, signed_literal, literal_back, signed_read, signed_number, decimal_free, decimal_some, number_read, regroup}
+use Rattle.lrat_check.specs.Lines.{addition, number_field, field_of, list_from, list_of, with_hints, addition_of, behind_id, with_id, fields_say, has_outer_space, line_of}
 use Rattle.lrat_check.specs.declared.field.Field.{Field}
-use Rattle.lrat_check.specs.declared.field.Field.TheVariants.{End, Number, Broken}
-use Rattle.lrat_check.specs.Check.{Found, Known, given_at, with_clause, at_reading, at_clause, hints_fault, range_fault, clause_of, addition_fault, added, is_empty, unless_why, after_line, on_from, lines_fault, text_fault}
-use Rattle.lrat_check.specs.declared.fault.LratFault.{LratFault}
+use Rattle.lrat_check.specs.declared.field.Field.TheVariants.{Number}
+use Rattle.lrat_check.specs.Check.{Found, Known, given_at, with_clause, at_reading, at_clause, hints_fault, range_fault, clause_of, addition_fault, added, is_empty, unless_why, after_line, on_from, lines_fault}
 use Rattle.lrat_check.specs.declared.fault.LratWhy.{LratWhy}
-use Rattle.lrat_check.specs.Written.{spaced_hint, step_line, step_lines, lrat_of, StandsFor, IsAccepted}
+use Rattle.lrat_check.specs.Written.{spaced_hint, step_lines, lrat_of, StandsFor, IsAccepted}
 use Rattle.lrat_check.proofs.CheckSays.{is_judged, given_more}
 
 -- ---- fields

@@ -4,7 +4,7 @@ use Rattle.std.specs.List.{All, list_any, list_all, slice_index_or}
 use Rattle.std.specs.Str.{bytes_eq}
 use Rattle.std.proofs.lemmas.List.Elements.{All-cons, All-nil}
 use Rattle.std.proofs.lemmas.Slice.Eq.{bytes_eq-Decides}
-use Rattle.clap.specs.Words.{AddsInTurn, AddsArg, IsParsedFrom, IsPlainArg, App, Rule, Text, app_of, args_of, rule_of, with_rule, first_value, found_of, groups_of}
+use Rattle.clap.specs.Words.{AddsInTurn, AddsArg, App, Rule, Text, app_of, args_of, rule_of, with_rule, groups_of}
 use Rattle.clap.specs.Built.{FitsChain, HasDistinctIds, IsAuto, TakesValue}
 use Rattle.clap.specs.Walk.{is_empty}
 use Rattle.clap.specs.declared.builder.arg.Arg.{Arg}

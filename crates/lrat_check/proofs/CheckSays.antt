@@ -1,15 +1,14 @@
 -- Additions, hints, deletions and tables, piece by piece.
-use Rattle.std.proofs.Common.{◌≡◌, ◌∙◌, ◌<◌, ◌≤◌, ◌+◌, ℕ, Bool, true, false, zero, suc, refl, sym, ap, ap₂, subst, arith, take, drop, List, [], ◌∷◌, ◌++◌, length, map, get_or, inl, inr, Option, Some, None, Result, Ok, Err, add-one, drop-cons}
-use Rattle.std.specs.Prelude.{◌==◌, ◌||◌, not, nat_lt, slice_get, is_some, if◌then◌else◌}
+use Rattle.std.proofs.Common.{◌≡◌, ◌∙◌, ◌<◌, ◌≤◌, ◌+◌, ℕ, Bool, true, false, zero, suc, refl, sym, ap, ap₂, arith, take, drop, List, [], ◌∷◌, length, get_or, inl, inr, Option, Some, None, Result, add-one, drop-cons}
+use Rattle.std.specs.Prelude.{◌==◌, ◌||◌, slice_get, is_some, if◌then◌else◌}
 use Rattle.std.specs.List.{list_any}
 use Rattle.std.proofs.Math.Path.{fun_ext}
 use Rattle.std.proofs.Math.Bool.{or-false}
-use Rattle.std.proofs.lemmas.Bool.{cases_Bool, eqb-true, eq-eqb, lt-ltb}
+use Rattle.std.proofs.lemmas.Bool.{eq-eqb, lt-ltb}
 use Rattle.std.proofs.lemmas.Bool.Decides.{eqb_tells}
 use Rattle.rsfq_ids.specs.Formula.{Clause, opposite}
 use Rattle.rsfq_ids.specs.declared.circuit.Cnf.{Cnf}
 use Rattle.proof_arena.specs.Step.{is_among, reading, is_tautology}
-use Rattle.dimacs_text.specs.Number.{literal_of}
 use Rattle.dimacs_text.specs.declared.number.Signed.{Signed}
 use Rattle.lrat_check.specs.declared.fault.LratWhy.{LratWhy}
 use Rattle.lrat_check.specs.declared.fault.LratWhy.TheVariants as why

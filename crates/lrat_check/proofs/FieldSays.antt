@@ -1,10 +1,10 @@
 -- A list of numbers, field by field.
-use Rattle.std.proofs.Common.{◌≡◌, ◌∙◌, refl, ap, Bool, true, false, List, [], ◌++◌, Option, Some, None}
+use Rattle.std.proofs.Common.{◌≡◌, ◌∙◌, refl, ap, true, false, List, [], ◌++◌, Option, Some, None}
 use Rattle.std.specs.Prelude.{option_map, is_some}
 use Rattle.std.specs.List.{list_any}
 use Rattle.dimacs_text.specs.Parts.{Part}
 use Rattle.dimacs_text.specs.declared.number.Signed.{Signed}
-use Rattle.lrat_check.specs.Lines.{Line, broken, deletion, deletion_of}
+use Rattle.lrat_check.specs.Lines.{broken, deletion, deletion_of}
 
 -- numbers before those of a list
 abbrev pub before : List Signed → Option (List Signed × List Part) → Option (List Signed × List Part)

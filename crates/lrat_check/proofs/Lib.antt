@@ -9,3 +9,6 @@ pub mod Utf8Words
 pub mod Settled
 pub mod StepLines
 pub mod Accepted
+mod StepLaw
+mod CommandLaw
+mod Reached

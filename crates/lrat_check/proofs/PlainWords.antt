@@ -1,5 +1,5 @@
 -- The words that a command of two positionals takes, by the grammar.
-use Rattle.std.proofs.Common.{ap₂, ◌≡◌, ◌≢◌, ◌∙◌, ◌==◌, ◌&&◌, ◌||◌, ◌⊎◌, ap, sym, cond, [], ◌∷◌, List, Option, Some, None, ℕ, Bool, false, true, not, codes, refl, inl, inr, option_map, length, is_some, suc, drop}
+use Rattle.std.proofs.Common.{ap₂, ◌≡◌, ◌∙◌, ◌==◌, ◌||◌, ap, sym, cond, [], ◌∷◌, List, Option, Some, None, ℕ, Bool, false, true, codes, refl, option_map, length, suc, drop}
 use Rattle.std.specs.Prelude.{slice_get, encode_utf8}
 use Rattle.clap.specs.Simple.{filled, help_rule, with_index}
 use Rattle.std.specs.Str.{bytes_eq, chars}

@@ -1,8 +1,8 @@
 -- A proof with no fault refutes its formula.
-use Rattle.std.proofs.Common.{◌≡◌, ◌∙◌, ◌<◌, ◌+◌, ℕ, Bool, true, false, zero, suc, refl, sym, ap, subst, arith, List, [], ◌∷◌, length, map, inl, inr, Option, Some, None, Result, Ok, Err}
-use Rattle.std.specs.Prelude.{◌==◌, ◌||◌, not, nat_lt, slice_get}
+use Rattle.std.proofs.Common.{◌≡◌, ◌+◌, ℕ, Bool, true, false, zero, suc, refl, subst, List, [], ◌∷◌, inl, inr, Option, Some, None, Result, Ok, Err}
+use Rattle.std.specs.Prelude.{◌==◌, nat_lt}
 use Rattle.std.specs.List.{All, list_any}
-use Rattle.std.proofs.lemmas.Bool.{cases_Bool, eqb-true}
+use Rattle.std.proofs.lemmas.Bool.{cases_Bool}
 use Rattle.std.proofs.lemmas.Option.{slice_get_within, get_or_from_slice_get}
 use Rattle.rsfq_ids.specs.Formula.{Clause, opposite, value_of, Satisfies, HasSolution}
 use Rattle.rsfq_ids.specs.declared.circuit.Cnf.{Cnf}
@@ -16,7 +16,7 @@ use Rattle.lrat_check.specs.declared.fault.LratFault.{LratFault}
 use Rattle.lrat_check.specs.declared.fault.LratWhy.{LratWhy}
 use Rattle.lrat_check.specs.declared.fault.LratWhy.TheVariants as why
 use Rattle.lrat_check.specs.Lines.{Line, skipped, broken, addition, deletion, line_of}
-use Rattle.lrat_check.specs.Check.{Found, Known, given_at, with_clause, without_clause, known_at_first, at_reading, at_clause, hints_fault, range_fault, clause_of, or_else, addition_fault, added, is_empty, unless_why, deleted, deleted_if, keeps, after_line, at_end, on_from, lines_fault, text_fault}
+use Rattle.lrat_check.specs.Check.{Found, Known, given_at, with_clause, without_clause, known_at_first, at_reading, at_clause, hints_fault, range_fault, clause_of, or_else, addition_fault, added, is_empty, unless_why, deleted, deleted_if, keeps, after_line, on_from, lines_fault, text_fault}
 
 no_fault : {A : Type 0} (f : A) → Some f ≡ None → ⊥
 no_fault f e = cc

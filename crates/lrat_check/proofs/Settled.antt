@@ -1,12 +1,13 @@
 -- What follows of a run over two files that the folder tells.
-use Rattle.std.proofs.Common.{◌≡◌, ◌∙◌, ◌<◌, ◌≤◌, ◌⊎◌, ℕ, Bool, true, false, refl, sym, ap, subst, arith, List, [], ◌∷◌, length, inl, inr, Option, Some, None, Result, Ok, Err}
-use Rattle.std.specs.Prelude.{◌≢◌, nat_lt, suc, if◌then◌else◌}
+use Rattle.std.proofs.Common.{◌≡◌, ◌∙◌, ◌<◌, ◌≤◌, ℕ, false, refl, sym, ap, subst, arith, List, [], ◌∷◌, length, inl, inr, Option, Some, None, Result, Ok, Err}
+use Rattle.std.specs.Prelude.{◌≢◌, ◌⊎◌, nat_lt, suc}
 use Rattle.std.proofs.lemmas.Bool.{lt-ltb}
 use Rattle.std.proofs.lemmas.Bool.Decides.{leb_tells}
 use Rattle.rsfq_ids.specs.declared.circuit.Cnf.{Cnf}
+use Rattle.rsfq_outside.specs.declared.fault.CallKind.TheVariants.{Read}
 use Rattle.rsfq_outside.specs.declared.status.Status.{Status}
 use Rattle.rsfq_outside.specs.declared.status.Status.TheVariants.{Accepted, Refused, Fault, Memory}
-use Rattle.rsfq_outside.specs.Answers.{ExactlyWhere}
+use Rattle.rsfq_outside.specs.Answers.{ExactlyWhere, FaultDue}
 use Rattle.rsfq_outside.specs.Reads.{long_line, IsWholeFile, IsTooLong}
 use Rattle.rsfq_outside.specs.Told.{Files, told_content, Grows}
 use Rattle.proof_arena.specs.Laws.{ReadingsAreSound, DenialsAreSound}
@@ -15,7 +16,7 @@ use Rattle.dimacs_text.specs.declared.fault.TextFault.{TextFault}
 use Rattle.lrat_check.specs.Check.{text_fault}
 use Rattle.lrat_check.specs.declared.fault.LratFault.{LratFault}
 use Rattle.lrat_check.specs.Report.{Verdict, verdict_on_proof, verdict_on_cnf, verdict_of}
-use Rattle.lrat_check.specs.Run.{most_bytes, Asks, FolderRun, SinkRun, IsDue, IsFirst, IsReplied, Runs, IfTold, reply_of, IsTheReply, IsVerified, IsRefuted}
+use Rattle.lrat_check.specs.Run.{most_bytes, Asks, IsOwnRead, HasFaultCause, FolderRun, SinkRun, IsDue, IsFirst, IsReplied, Runs, IfTold, reply_of, IsTheReply, IsVerified, IsRefuted}
 use Rattle.lrat_check.proofs.Refutes.{refutes}
 
 -- a run that came to its end: what was due stands whole
@@ -128,3 +129,43 @@ pub refuted_by : ReadingsAreSound → DenialsAreSound → (folder : FolderRun) (
 refuted_by readings denials folder words status sink runs cnf proof f p asks told also is =
     let verified = (accepted_exact folder words status sink runs cnf proof f p asks told also).only is in
     (verified.formula, verified.reads, refutes readings denials verified.formula p verified.holds)
+
+-- ---- what Fault says
+
+plain_proof : (fault : Option LratFault) → (verdict_on_proof fault).status ≡ Fault → ⊥
+plain_proof None is = cc
+plain_proof (Some fault) is = cc
+
+plain_cnf : (p : List ℕ) (read : Result Cnf TextFault) → (verdict_on_cnf p read).status ≡ Fault → ⊥
+plain_cnf p (Ok formula) is = plain_proof (text_fault formula p) is
+plain_cnf p (Err fault) is = cc
+
+own_read : (folder : FolderRun) (words : List (List ℕ)) (cnf proof name : List ℕ) (line : List ℕ) → Asks words cnf proof → (name ≡ cnf) ⊎ (name ≡ proof)
+    → FaultDue folder.before folder.now folder.blamed (λ call. call ≡ (Read, name)) line → FaultDue folder.before folder.now folder.blamed (IsOwnRead words) line
+own_read folder words cnf proof name line asks (inl same) due = record {
+  rose = due.rose;
+  blame = (due.blame.0, due.blame.1, (cnf, proof, asks, inl (rw same at due.blame.2)), due.blame.3);
+}
+own_read folder words cnf proof name line asks (inr same) due = record {
+  rose = due.rose;
+  blame = (due.blame.0, due.blame.1, (cnf, proof, asks, inr (rw same at due.blame.2)), due.blame.3);
+}
+
+second_fault : (folder : FolderRun) (words : List (List ℕ)) (cnf proof bytes : List ℕ) (status : Status) (text : List ℕ) → Asks words cnf proof → status ≡ Fault
+    → IsReplied folder proof bytes status text → FaultDue folder.before folder.now folder.blamed (IsOwnRead words) text
+second_fault folder words cnf proof bytes status text asks is (inl unread) = own_read folder words cnf proof proof text asks (inr refl) unread.due
+second_fault folder words cnf proof bytes status text asks is (inr (inl long)) = absurd (let answer = long.answer in cc)
+second_fault folder words cnf proof bytes status text asks is (inr (inr answered)) =
+    absurd (plain_cnf answered.proof (reading bytes) (ap (λ (v : Verdict). v.status) answered.verdict ∙ is))
+
+due_fault : (folder : FolderRun) (words : List (List ℕ)) (status : Status) (text : List ℕ) → status ≡ Fault
+    → IsDue folder words status text → FaultDue folder.before folder.now folder.blamed (IsOwnRead words) text
+due_fault folder words status text is (inl usage) = absurd (let answer = usage.answer in cc)
+due_fault folder words status text is (inr (cnf, proof, asks, inl unread)) = own_read folder words cnf proof cnf text asks (inl refl) unread.due
+due_fault folder words status text is (inr (cnf, proof, asks, inr (inl long))) = absurd (let answer = long.answer in cc)
+due_fault folder words status text is (inr (cnf, proof, asks, inr (inr onward))) = second_fault folder words cnf proof onward.cnf status text asks is onward.reply
+
+pub fault_cause : (folder : FolderRun) (words : List (List ℕ)) (status : Status) (sink : SinkRun) → Runs folder words status sink → status ≡ Fault → HasFaultCause folder words sink
+fault_cause folder words status sink (inl memory) is = absurd (let answer = memory.0 in cc)
+fault_cause folder words status sink (inr (due, text, at, inl (same, grown))) is = inr (text, due_fault folder words due text (sym same ∙ is) at, grown)
+fault_cause folder words status sink (inr (due, text, at, inr (fault, rose, part))) is = inl rose

@@ -1,7 +1,7 @@
 -- The lines of steps, one at a time.
-use Rattle.std.proofs.Common.{◌≡◌, ◌∙◌, ◌<◌, ◌≤◌, ◌+◌, ◌-◌, ℕ, zero, suc, refl, sym, ap, ap₂, subst, arith, take, List, [], ◌∷◌, ◌++◌, length, map, Option, Some, None, append_assoc, append-nil, add-zero, add-one}
+use Rattle.std.proofs.Common.{◌≡◌, ◌∙◌, ◌≤◌, ◌+◌, ◌-◌, ℕ, zero, suc, sym, ap, ap₂, arith, take, List, [], ◌∷◌, ◌++◌, length, Option, Some, None, append_assoc, append-nil, add-zero}
 use Rattle.std.specs.Prelude.{slice_get, option_map}
-use Rattle.std.proofs.lemmas.Option.{slice_get-map, slice_get_within}
+use Rattle.std.proofs.lemmas.Option.{slice_get-map}
 use Rattle.rsfq_ids.specs.Formula.{Clause}
 use Rattle.proof_arena.specs.Log.{LogStep, lits_of}
 use Rattle.lrat_check.specs.Written.{step_line, step_lines}

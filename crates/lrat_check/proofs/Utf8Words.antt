@@ -1,5 +1,5 @@
 -- Words that are texts have a character after a hyphen.
-use Rattle.std.proofs.Common.{◌≡◌, ◌∙◌, ◌==◌, ◌<◌, cond, [], ◌∷◌, List, Option, Some, None, ℕ, Bool, true, false, map, refl, sym, arith, string_bytes, String, length, ap}
+use Rattle.std.proofs.Common.{◌≡◌, ◌∙◌, ◌==◌, ◌<◌, cond, [], ◌∷◌, List, Option, Some, None, ℕ, Bool, true, false, map, refl, sym, arith, string_bytes, String, ap}
 use Rattle.std.specs.Prelude.{IsUtf8, slice_get}
 use Rattle.std.proofs.lemmas.Bool.{eqb-true}
 use Rattle.std.proofs.Math.Utf8.{encodes}

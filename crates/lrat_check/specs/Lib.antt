@@ -2,8 +2,10 @@ pub mod Lines
 pub mod Check
 pub mod Forms
 pub mod Tables
+pub mod Reached
 pub mod Grammar
 pub mod Usage
 pub mod Report
 pub mod Run
 pub mod Written
+pub mod Laws

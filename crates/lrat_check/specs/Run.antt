@@ -1,5 +1,5 @@
 -- What the whole run answers to its words and the two files, and what it leaves on the sink.
-use Rattle.std.specs.Prelude.{◌≡◌, ◌≢◌, ◌⊎◌, ℕ, ◌<◌, ◌≤◌, List, [], ◌∷◌, ◌++◌, length, map, Option, Some, None, Ok, String, string_bytes, codes, nat_lt, if◌then◌else◌}
+use Rattle.std.specs.Prelude.{◌≡◌, ◌⊎◌, ℕ, ◌≤◌, List, [], ◌∷◌, length, map, Option, Some, None, Ok, String, string_bytes, codes, nat_lt, if◌then◌else◌}
 use Rattle.rsfq_ids.specs.Formula.{HasSolution}
 use Rattle.rsfq_ids.specs.declared.circuit.Cnf.{Cnf}
 use Rattle.rsfq_outside.specs.declared.fault.CallKind.TheVariants.{Read}

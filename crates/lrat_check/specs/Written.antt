@@ -1,5 +1,5 @@
 -- The text of a log in the LRAT text format: a line for each step, with one space between fields and no deletions.
-use Rattle.std.specs.Prelude.{◌≡◌, ℕ, ◌+◌, ◌<◌, ◌^◌, List, [], ◌∷◌, ◌++◌, length, decimal, None}
+use Rattle.std.specs.Prelude.{◌≡◌, ℕ, ◌+◌, List, [], ◌∷◌, ◌++◌, length, decimal, None}
 use Rattle.std.specs.List.{flat_map}
 use Rattle.rsfq_ids.specs.declared.circuit.Cnf.{Cnf}
 use Rattle.proof_arena.specs.Log.{Log, LogStep, HasEnded}

@@ -1,17 +1,19 @@
 //! The check of a proof.
-ghost use Rattle.std.specs.Prelude.{◌≡◌, ◌≢◌, ◌≤◌, ◌<◌, ◌+◌, ◌^◌, ◌++◌, ◌∷◌, [], None, Some, Ok, Err, true, false, length, drop, IfErr, OnOk, IfOk};
-ghost use Rattle.std.specs.List.{All};
+ghost use Rattle.std.specs.Prelude.{◌≡◌, ◌≢◌, ◌≤◌, ◌<◌, ◌+◌, ◌^◌, ◌++◌, ◌∷◌, [], None, Some, Ok, Err, true, false, min, length, drop, IfErr, OnOk, IfOk};
+ghost use Rattle.std.specs.List.{All, concat};
 ghost use Rattle.rsfq_ids.specs.Formula.{IsFormula, HasSolution};
 ghost use Rattle.proof_arena.specs.Step.{is_among, is_tautology};
 ghost use Rattle.proof_arena.specs.Table.{falses_of};
 ghost use Rattle.dimacs_text.specs.Parts.{lines};
 ghost use Rattle.lrat_check.specs.Forms.{form_of};
 ghost use Rattle.lrat_check.specs.Lines.{line_of};
-ghost use Rattle.lrat_check.specs.Tables.{found_of, known_of};
+ghost use Rattle.lrat_check.specs.Tables.{found_of, known_of, HasNearTable};
+ghost use Rattle.lrat_check.specs.Reached.{vars_up_to};
 ghost use Rattle.lrat_check.specs.Check.{after_line, addition_fault, added, clause_of, deleted, hints_fault, range_fault, lines_fault, text_fault, unless_why, keeps, at_end, known_at_first};
 
 use crate::fault::{LratFault, LratWhy};
 use crate::line::{Form, Numbers};
+use crate::reach::Reach;
 use crate::table::ClauseTable;
 use bumpalo::Bump;
 use dimacs_text::{Signed, line_end};
@@ -21,9 +23,6 @@ use rsfq_ids::id::Lit;
 use rsfq_ids::list::NoMemory;
 use std::alloc::Global;
 
-/// The most variables that always have a place in the table of marks.
-const NEAR: u32 = 1 << 16;
-
 /// What is known while a proof is checked.
 #[derive(Drop)]
 struct Checker<'a> {
@@ -32,31 +31,29 @@ struct Checker<'a> {
     table: ClauseTable<'a>,
     last: u32,
     refuted: bool,
+    reach: Reach,
     marks: Marks,
     clause: Vec<Lit>,
 }
 
 impl<'a> Checker<'a> {
-    /// What is known of a formula before the first line of a text of so many bytes.
-    fn new(
-        alloc: Global,
-        cnf: &'a Cnf,
-        len: usize,
-        arena: &'a Bump,
-    ) -> Result<Checker<'a>, NoMemory>
-        requires formula { IsFormula cnf.now }
-        requires limit { len ≤ 268435456 }
-        ensures { IfOk result (λ checker. (checker.vars ≡ cnf.entry.now.vars) × (known_of checker ≡ known_at_first cnf.entry.now)) }
+    /// What is known of a formula before the first line.
+    fn new(alloc: Global, cnf: &'a Cnf, arena: &'a Bump) -> Result<Checker<'a>, NoMemory>
+        requires { IsFormula cnf.now }
+        ensures known { IfOk result (λ checker. (checker.vars ≡ cnf.entry.now.vars) × (known_of checker ≡ known_at_first cnf.entry.now)) }
+        ensures near { IfOk result (λ checker. HasNearTable checker) }
+        ensures met { IfOk result (λ checker. checker.reach.met ≡ min (length (concat cnf.entry.now.clauses)) 4294967295) }
+        ensures reach { IfOk result (λ checker. checker.reach.vars ≡ vars_up_to (concat cnf.entry.now.clauses)) }
     {
-        let clauses = cnf.clauses.len() as u32;
-        let near = cnf.vars.min(NEAR.max(clauses + len as u32));
+        let reach = Reach::of(cnf);
         Ok(Checker {
             vars: cnf.vars,
             arena,
             table: ClauseTable::new(alloc, cnf)?,
-            last: clauses,
+            last: cnf.clauses.len() as u32,
             refuted: false,
-            marks: Marks::new(alloc, near)?,
+            reach,
+            marks: Marks::new(alloc, reach.near())?,
             clause: Vec::new(alloc),
         })
     }
@@ -129,7 +126,8 @@ impl<'a> Checker<'a> {
             return Err(LratWhy::Id);
         }
         read_clause(self.vars, lits, &mut self.clause)?;
-        self.marks.clear();
+        self.reach.meet(&self.clause);
+        self.marks.clear_for(self.reach.near())?;
         self.marks.deny_any(&self.clause)?;
         if self.marks.has_true(&self.clause) {
             return Err(LratWhy::Tautology);
@@ -216,7 +214,7 @@ fn check_lines(alloc: Global, cnf: &Cnf, bytes: &[u8], arena: &Bump) -> Result<(
     ensures ok { OnOk result (text_fault cnf.now bytes.now ≡ None) }
     ensures err { IfErr result (λ fault. fault.why ≢ LratWhy.Memory → text_fault cnf.now bytes.now ≡ Some fault) }
 {
-    let mut checker = Checker::new(alloc, cnf, bytes.len(), arena)?;
+    let mut checker = Checker::new(alloc, cnf, arena)?;
     let mut numbers = Numbers::new(alloc);
     let mut at = 0;
     let mut line = 0;

@@ -1,4 +1,9 @@
-//! Laws on texts of logs: functions that do nothing, whose clauses serve the proofs of their callers.
+//! Laws on texts of proofs: functions that do nothing, whose clauses serve the proofs of their callers.
+ghost use Rattle.std.specs.Prelude.{◌≢◌, ◌↔◌, []};
+ghost use Rattle.clap.specs.Words.{fault_of};
+ghost use Rattle.lrat_check.specs.Laws.{AdditionsAreSteps, HintsNameClauses};
+ghost use Rattle.lrat_check.specs.Run.{AsksNothing, texts};
+ghost use Rattle.lrat_check.specs.Usage.{lrat_command};
 ghost use Rattle.lrat_check.specs.Written.{StandsFor, IsAccepted};
 
 use proof_arena::ProofLog;
@@ -14,4 +19,19 @@ pub fn ended_log_is_accepted(cnf: &Cnf, log: &ProofLog<'_>)
     let _vars = log.vars();
     let _clauses = log.clauses();
     let _ended = log.ends();
+}
+
+/// The checker reads hints as `step_holds` does: an addition of a text is accepted exactly where its id is above all earlier ones and its
+/// clause is a step that holds against the clauses that its hints name. Such clauses can be listed for any hints.
+pub fn additions_are_steps()
+    ensures accepted { AdditionsAreSteps }
+    ensures listed { HintsNameClauses }
+{}
+
+/// The simple command `rsfq_lrat CNF PROOF` refuses words exactly where they ask for nothing. There `lrat_run` answers `Words`, but for
+/// want of memory and a fault.
+pub fn refused_words_ask_for_nothing(words: &[String])
+    ensures refused { (fault_of lrat_command (texts words.now) ≢ []) ↔ AsksNothing (texts words.now) }
+{
+    let _count = words.len();
 }

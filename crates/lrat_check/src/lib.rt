@@ -9,6 +9,7 @@ mod fault;
 mod field;
 mod laws;
 mod line;
+mod reach;
 mod report;
 mod run;
 mod table;
@@ -19,6 +20,6 @@ mod write;
 
 pub use check::check_text;
 pub use fault::{LratFault, LratWhy};
-pub use laws::ended_log_is_accepted;
+pub use laws::{additions_are_steps, ended_log_is_accepted, refused_words_ask_for_nothing};
 pub use run::lrat_run;
 pub use write::write_lrat;

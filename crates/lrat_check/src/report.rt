@@ -6,7 +6,7 @@ ghost use Rattle.lrat_check.specs.Report.{cnf_why, cnf_line, proof_why, proof_li
 use crate::check::check_text;
 use crate::fault::{LratFault, LratWhy};
 use bumpalo::Bump;
-use dimacs_text::{TextFault, TextWhy, read_dimacs};
+use dimacs_text::{TextFault, TextWhy, append_number, read_dimacs};
 use itoa::Buffer;
 use rsfq_ids::list::NoMemory;
 use rsfq_outside::{Reply, Status};
@@ -124,14 +124,6 @@ fn append_proof_why(text: &mut Vec<u8>, why: LratWhy) -> Result<(), AllocError>
         LratWhy::NoEmpty => text.extend_from_slice(b"no empty"),
         LratWhy::Memory => Ok(()),
     }
-}
-
-/// Appends a number.
-fn append_number(text: &mut Vec<u8>, number: u64) -> Result<(), AllocError>
-    ensures { OnOk result (text.new.items ≡ text.old.items ++ decimal number) }
-{
-    let mut buffer = Buffer::new();
-    text.extend_from_slice(buffer.format(number).as_bytes())
 }
 
 /// Appends a number that may be below 0.

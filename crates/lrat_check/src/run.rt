@@ -1,9 +1,12 @@
 //! The top call: reads and decides, makes the text that is due, and only then writes it.
-ghost use Rattle.std.specs.Prelude.{◌≡◌, ◌≢◌, ◌≤◌, ◌<◌, ◌⊎◌, ℕ, List, IfOk, length};
+ghost use Rattle.std.specs.Prelude.{◌≡◌, ◌≢◌, ◌≤◌, ◌<◌, ◌⊎◌, ℕ, List, [], IfOk, length};
+ghost use Rattle.clap.specs.Words.{fault_of};
 ghost use Rattle.rsfq_outside.specs.Answers.{ExactlyWhere};
 ghost use Rattle.rsfq_outside.specs.Told.{Grows};
 ghost use Rattle.lrat_check.specs.Run.{texts, usage_text, AsksNothing, IsReplied, IsDue, Runs, folder_run, sink_run, IfTold, reply_of, IsTheReply, IsVerified, IsRefuted, HasFaultCause};
+ghost use Rattle.lrat_check.specs.Usage.{lrat_command};
 
+use crate::laws::refused_words_ask_for_nothing;
 use crate::report::verify;
 use crate::words::{WordsFault, lrat_words_of};
 use proof_arena::{denials_are_sound, readings_are_sound};
@@ -62,7 +65,7 @@ fn prepare_proof<F: Folder>(
 ///
 /// `Accepted` with the line `verified` where every line of the proof holds and an empty clause is added; then no assignment satisfies the
 /// formula. `Refused` with the first cause: a file of more than 256 MiB, the first fault of the formula's text, or of the proof's. `Words`
-/// with the usage line where the words are not two values. `Fault` where the folder fails at a read, with the line that says so, or where
+/// with the usage line where the words are not two values, which is where the simple command `rsfq_lrat CNF PROOF` refuses them. `Fault` where the folder fails at a read, with the line that says so, or where
 /// the sink fails. `Memory` where memory is wanting, and then nothing was written.
 pub fn lrat_run<F: Folder, S: Sink>(
     alloc: Global,
@@ -75,6 +78,7 @@ pub fn lrat_run<F: Folder, S: Sink>(
 
     // When each answer comes, and what then stands on the sink. Those on the files speak where the folder tells them.
     ensures words { ExactlyWhere (AsksNothing (texts words.now)) Status.Words result }
+    ensures command { ExactlyWhere (fault_of lrat_command (texts words.now) ≢ []) Status.Words result }
     ensures reply { IfTold (F.told folder.old) (texts words.now) (λ cnf proof formula_text proof_text. result ≢ Status.Memory → result ≢ Status.Fault →
         IsTheReply (reply_of cnf proof formula_text proof_text) result (sink_run (S.written out.old) (S.written out.new) (S.faults out.old) (S.faults out.new))) }
     ensures accepted { IfTold (F.told folder.old) (texts words.now) (λ cnf proof formula_text proof_text. ExactlyWhere (IsVerified formula_text proof_text) Status.Accepted result) }
@@ -96,6 +100,7 @@ pub fn lrat_run<F: Folder, S: Sink>(
 {
     readings_are_sound();
     denials_are_sound();
+    refused_words_ask_for_nothing(words);
     let Ok(reply) = prepare(alloc, words, folder) else {
         return Status::Memory;
     };

@@ -1,5 +1,7 @@
 //! Proofs of small formulas.
-use crate::{LratWhy, check_text, ended_log_is_accepted, lrat_run, write_lrat};
+use crate::{
+    LratWhy, additions_are_steps, check_text, ended_log_is_accepted, lrat_run, write_lrat,
+};
 use bumpalo::Bump;
 use dimacs_text::read_dimacs;
 use proof_arena::{Marks, ProofLog, step_holds};
@@ -10,12 +12,20 @@ use std::test::Fail;
 
 const CHAIN: &[u8] = b"p cnf 2 3\n1 0\n-1 2 0\n-2 0\n";
 
+/// A formula of one clause, which is empty.
+const EMPTY: &[u8] = b"p cnf 1 1\n0\n";
+
 const WIRE: &[u8] =
     b"p cnf 4 8\n1 -2 0\n-1 2 0\n-3 0\n-4 2 1 0\n-4 -2 -1 0\n4 -2 1 0\n4 2 -1 0\n4 0\n";
 
+/// Formulas whose clauses name one variable, and the proofs more.
+const FIVE: &[u8] = b"p cnf 5 2\n1 0\n-1 0\n";
+
+const MANY: &[u8] = b"p cnf 2147483647 2\n1 0\n-1 0\n";
+
 #[test]
 fn proofs_are_verified(rt: HostRuntime) -> Result<(), Fail> {
-    let proofs: [(&[u8], &[u8]); 9] = [
+    let proofs: [(&[u8], &[u8]); 15] = [
         (CHAIN, b"4 2 0 1 1 2 0\n5 0 4 3 0\n"),
         (WIRE, b"9 1 0 1 8 4 0\n10 -1 0 2 8 5 0\n11 0 9 10 0\n"),
         (CHAIN, b"4 0 1 2 3 0"),
@@ -27,9 +37,18 @@ fn proofs_are_verified(rt: HostRuntime) -> Result<(), Fail> {
         (CHAIN, b"4 0 1 2 3 0\n5 1 0 1 0\n6 d 4 0\n"),
         (CHAIN, b"4 2 2 0 1 2 0\n5 0 4 3 0\n"),
         (CHAIN, b"0004 0 0001 2 3 0\n"),
+        (CHAIN, b"4 0 1 2 3 -9 2 0\n"),
+        (CHAIN, b"4 2 0 1 2 0\n0 d 0002 0\n1 d 0\nc d\n5 0 4 3 0\n"),
+        (EMPTY, b"2 0 1 0\n"),
+        (b"p cnf 1 2\n1 1 0\n-1 -1 0\n", b"3 0 1 2 0\n"),
         (
             b"p cnf 2147483647 2\n2147483647 0\n-2147483647 0\n",
             b"3 0 1 2 0\n",
+        ),
+        (FIVE, b"3 5 0 1 2 0\n4 -5 0 1 2 0\n5 0 3 4 0\n"),
+        (
+            MANY,
+            b"3 2147483647 0 1 2 0\n4 -2147483647 0 1 2 0\n5 0 3 4 0\n",
         ),
     ];
     for (formula, proof) in proofs {
@@ -112,6 +131,51 @@ fn faults_are_the_first(rt: HostRuntime) -> Result<(), Fail> {
     Ok(())
 }
 
+// Each row: a proof of the chain's formula whose failing line has two causes or more, and the one that counts.
+#[test]
+fn the_first_cause_of_a_line(rt: HostRuntime) -> Result<(), Fail> {
+    let faults: [(&[u8], u32, LratWhy); 23] = [
+        (b"3 3 1 -1 0 -1 x 0", 1, LratWhy::Syntax),
+        (b"3 3 1 -1 0 -1 9 0", 1, LratWhy::Id),
+        (b"4 1 -1 3 0 -1 9 0", 1, LratWhy::Range(3)),
+        (b"4 -4 3 0 -1 0", 1, LratWhy::Range(-4)),
+        (b"4 1 -1 0 -1 9 0", 1, LratWhy::Tautology),
+        (b"4 0 -9 2 0", 1, LratWhy::Rat),
+        (b"4 0 9 -1 0", 1, LratWhy::NoClause(9)),
+        (b"4 0 9 2 0", 1, LratWhy::NoClause(9)),
+        (b"4 0 2 -1 0", 1, LratWhy::NotUnit(2)),
+        (b"4 0 2 9 0", 1, LratWhy::NotUnit(2)),
+        (b"4 0 1 2 9 0", 1, LratWhy::NoClause(9)),
+        (b"4 0 1 2 -3 0", 1, LratWhy::Rat),
+        (b"4 1 0 3 2 0", 1, LratWhy::NoConflict),
+        (b"4 0 1 2 3 x 0", 1, LratWhy::Syntax),
+        (b"4 d 9 x 0", 1, LratWhy::Syntax),
+        (b"4 d 9 -1 0", 1, LratWhy::Syntax),
+        (b"4 d 9 8 0", 1, LratWhy::NoClause(9)),
+        (b"4 d 9 0 1 0", 1, LratWhy::Syntax),
+        (b"4294967296 d 9 0", 1, LratWhy::Syntax),
+        (b"4 2 0 1 2 0\n4 d 4 0\n4 3 0 4 0\n", 3, LratWhy::Id),
+        (b"4 3 0 1 0\nx\n", 1, LratWhy::Range(3)),
+        (b"4 0 1 0\n3 0 1 0\n", 1, LratWhy::NoConflict),
+        (b"1 d 3 0\n4 0 1 2 3 0\n", 2, LratWhy::NoClause(3)),
+    ];
+    let Ok(cnf) = read_dimacs(rt.alloc(), CHAIN) else {
+        panic!(rt; "refused formula");
+    };
+    for (proof, line, why) in faults {
+        assert!(rt; proof.len() < 1000);
+        let arena = Bump::new(rt.alloc());
+        match check_text(rt.alloc(), &cnf, proof, &arena) {
+            Ok(()) => panic!(rt; "verified"),
+            Err(fault) => {
+                assert_eq!(rt; fault.line, line);
+                assert_eq!(rt; fault.why, why);
+            }
+        }
+    }
+    Ok(())
+}
+
 fn words_of(alloc: Global, words: &[&str]) -> Result<Vec<String>, AllocError> {
     let mut all = Vec::new(alloc);
     for word in words {
@@ -126,7 +190,7 @@ const USAGE: &[u8] = b"usage: rsfq_lrat CNF PROOF\n";
 #[test]
 fn rows_of_the_words(rt: HostRuntime) -> Result<(), Fail> {
     let alloc = rt.alloc();
-    let rows: [(&[&str], Status, &[u8]); 16] = [
+    let rows: [(&[&str], Status, &[u8]); 23] = [
         (&["f", "p"], Status::Accepted, b"verified\n"),
         (&["w", "v"], Status::Accepted, b"verified\n"),
         (&["--", "f", "p"], Status::Accepted, b"verified\n"),
@@ -140,6 +204,11 @@ fn rows_of_the_words(rt: HostRuntime) -> Result<(), Fail> {
         (&["p", "f"], Status::Refused, b"refused cnf 0 header\n"),
         (&["f", "-"], Status::Fault, b"fault read -\n"),
         (&["f", "--", "-p"], Status::Fault, b"fault read -p\n"),
+        (&["none", "no"], Status::Fault, b"fault read none\n"),
+        (&["p", "none"], Status::Fault, b"fault read none\n"),
+        (&["help", "p"], Status::Fault, b"fault read help\n"),
+        (&["", "p"], Status::Fault, b"fault read \n"),
+        (&["e", "p"], Status::Refused, b"refused proof 1 range 2\n"),
         (&[], Status::Words, USAGE),
         (&["f"], Status::Words, USAGE),
         (&["f", "p", "q"], Status::Words, USAGE),
@@ -147,11 +216,14 @@ fn rows_of_the_words(rt: HostRuntime) -> Result<(), Fail> {
         (&["f", "-h"], Status::Words, USAGE),
         (&["f", "-p"], Status::Words, USAGE),
         (&["f", "p", "--proof"], Status::Words, USAGE),
+        (&["f", "p", "--help"], Status::Words, USAGE),
+        (&["-V", "f", "p"], Status::Words, USAGE),
     ];
     let mut folder = MemoryFolder::new(alloc, Vec::new(alloc));
     folder.put("f", CHAIN)?;
     folder.put("p", b"4 2 0 1 1 2 0\n5 0 4 3 0\n")?;
     folder.put("q", b"4 2 0 1 1 0\n5 0 4 3 0\n")?;
+    folder.put("e", EMPTY)?;
     folder.put("w", WIRE)?;
     folder.put("v", b"9 1 0 1 8 4 0\n10 -1 0 2 8 5 0\n11 0 9 10 0\n")?;
     for (words, status, text) in rows {
@@ -164,33 +236,42 @@ fn rows_of_the_words(rt: HostRuntime) -> Result<(), Fail> {
     Ok(())
 }
 
-// Each row: a proof of the chain's formula, and the line of its refusal.
+// Each row: a formula, a proof, and the line of its refusal.
 #[test]
 fn refusals_of_proofs(rt: HostRuntime) -> Result<(), Fail> {
     let alloc = rt.alloc();
-    let rows: [(&[u8], &[u8]); 12] = [
-        (b"4 1 0 -1 0", b"refused proof 1 rat\n"),
-        (b"3 0 1 0", b"refused proof 1 id\n"),
-        (b"4 0 9 0", b"refused proof 1 no clause 9\n"),
-        (b"4 1 -1 0 1 0", b"refused proof 1 tautology\n"),
-        (b"4 3 0 1 0", b"refused proof 1 range 3\n"),
-        (b"4 -3 0 1 0", b"refused proof 1 range -3\n"),
-        (b"4 0 2 0", b"refused proof 1 not unit 2\n"),
-        (b"4 0 1 0", b"refused proof 1 no conflict\n"),
-        (b"", b"refused proof 0 no empty\n"),
-        (b"c\nx", b"refused proof 2 syntax\n"),
+    let rows: [(&[u8], &[u8], &[u8]); 15] = [
+        (CHAIN, b"4 1 0 -1 0", b"refused proof 1 rat\n"),
+        (CHAIN, b"3 0 1 0", b"refused proof 1 id\n"),
+        (CHAIN, b"4 0 9 0", b"refused proof 1 no clause 9\n"),
+        (CHAIN, b"4 1 -1 0 1 0", b"refused proof 1 tautology\n"),
+        (CHAIN, b"4 3 0 1 0", b"refused proof 1 range 3\n"),
+        (CHAIN, b"4 -3 0 1 0", b"refused proof 1 range -3\n"),
+        (CHAIN, b"4 0 2 0", b"refused proof 1 not unit 2\n"),
+        (CHAIN, b"4 0 1 0", b"refused proof 1 no conflict\n"),
+        (CHAIN, b"", b"refused proof 0 no empty\n"),
+        (CHAIN, b"c\nx", b"refused proof 2 syntax\n"),
         (
+            CHAIN,
             b"4 2 0 1 2 0\n1 d 4 0\n5 0 4 3 0\n",
             b"refused proof 3 no clause 4\n",
         ),
         (
+            CHAIN,
             b"4 2 0 1 1 0\n5 0 4 3 0\n",
             b"refused proof 1 no conflict\n",
         ),
+        (CHAIN, b"4 2 0 0", b"refused proof 1 no conflict\n"),
+        (b"p cnf 0 0\n", b"1 0 0", b"refused proof 1 no conflict\n"),
+        (
+            MANY,
+            b"3 2147483647 -2147483647 0 1 2 0\n",
+            b"refused proof 1 tautology\n",
+        ),
     ];
-    for (proof, text) in rows {
+    for (formula, proof, text) in rows {
         let mut folder = MemoryFolder::new(alloc, Vec::new(alloc));
-        folder.put("f", CHAIN)?;
+        folder.put("f", formula)?;
         folder.put("p", proof)?;
         let mut out = MemorySink::new(alloc, 1000, Vec::new(alloc))?;
         let given = words_of(alloc, &["f", "p"])?;
@@ -203,7 +284,7 @@ fn refusals_of_proofs(rt: HostRuntime) -> Result<(), Fail> {
     Ok(())
 }
 
-// Each row: a text of a formula, and the line of its refusal.
+// Each row: a text of a formula, and the line of its refusal. The proof is no proof either.
 #[test]
 fn refusals_of_formulas(rt: HostRuntime) -> Result<(), Fail> {
     let alloc = rt.alloc();
@@ -221,7 +302,7 @@ fn refusals_of_formulas(rt: HostRuntime) -> Result<(), Fail> {
     for (formula, text) in rows {
         let mut folder = MemoryFolder::new(alloc, Vec::new(alloc));
         folder.put("f", formula)?;
-        folder.put("p", b"")?;
+        folder.put("p", b"x")?;
         let mut out = MemorySink::new(alloc, 1000, Vec::new(alloc))?;
         let given = words_of(alloc, &["f", "p"])?;
         assert_eq!(rt;
@@ -233,27 +314,58 @@ fn refusals_of_formulas(rt: HostRuntime) -> Result<(), Fail> {
     Ok(())
 }
 
-// The folder fails at its first call, then at its second; the sink takes three bytes, then nothing.
+// Each row: the words, the calls at which the folder fails, the room of the sink, and what stands on it.
 #[test]
 fn faults_of_the_outside(rt: HostRuntime) -> Result<(), Fail> {
     let alloc = rt.alloc();
-    let given = words_of(alloc, &["f", "p"])?;
-    let rows: [(&[u64], usize, &[u8]); 5] = [
-        (&[1], 1000, b"fault read f\n"),
-        (&[2], 1000, b"fault read p\n"),
-        (&[2], 5, b"fault"),
-        (&[], 3, b"ver"),
-        (&[], 0, b""),
+    let rows: [(&[&str], &[u64], usize, &[u8]); 10] = [
+        (&["f", "p"], &[1], 1000, b"fault read f\n"),
+        (&["f", "p"], &[2], 1000, b"fault read p\n"),
+        (&["bad", "p"], &[2], 1000, b"fault read p\n"),
+        (&["f", "p"], &[2], 5, b"fault"),
+        (&["f", "p"], &[1], 0, b""),
+        (&["f", "p"], &[], 3, b"ver"),
+        (&["f", "p"], &[], 0, b""),
+        (&["bad", "p"], &[], 11, b"refused cnf"),
+        (&[], &[], 0, b""),
+        (&["--help"], &[], 5, b"usage"),
     ];
-    for (fails, room, text) in rows {
+    for (words, fails, room, text) in rows {
+        let given = words_of(alloc, words)?;
         let mut folder = MemoryFolder::new(alloc, fails.to_vec(alloc)?);
         folder.put("f", CHAIN)?;
+        folder.put("bad", b"bad")?;
         folder.put("p", b"4 0 1 2 3 0\n")?;
         let mut out = MemorySink::new(alloc, room, Vec::new(alloc))?;
         assert_eq!(rt;
             lrat_run(alloc, &given, &mut folder, &mut out),
             Status::Fault
         );
+        assert_eq!(rt; out.bytes(), text);
+    }
+    Ok(())
+}
+
+// A file of 256 MiB, which is one line of a comment, is read, and one of a byte more is too long. The file that is read first comes first,
+// and both come before the texts.
+#[test]
+fn at_most_256_mib(rt: HostRuntime) -> Result<(), Fail> {
+    let alloc = rt.alloc();
+    let rows: [(usize, &[&str], &[u8]); 3] = [
+        (268_435_456, &["f", "x"], b"refused proof 1 no empty\n"),
+        (268_435_457, &["bad", "x"], b"refused long x\n"),
+        (268_435_457, &["x", "none"], b"refused long x\n"),
+    ];
+    for (count, words, text) in rows {
+        let given = words_of(alloc, words)?;
+        let mut folder = MemoryFolder::new(alloc, Vec::new(alloc));
+        folder.put("f", CHAIN)?;
+        folder.put("bad", b"bad")?;
+        let bytes = vec![in alloc; b'c'; count]?;
+        folder.put("x", &bytes)?;
+        let mut out = MemorySink::new(alloc, 1000, Vec::new(alloc))?;
+        let answer = lrat_run(alloc, &given, &mut folder, &mut out);
+        assert_eq!(rt; answer, Status::Refused);
         assert_eq!(rt; out.bytes(), text);
     }
     Ok(())
@@ -296,6 +408,7 @@ fn a_written_log_is_verified(rt: HostRuntime) -> Result<(), Fail> {
         b"c\n9 1 0 1 8 4 0\n10 -1 0 2 8 5 0\n11 0 9 10 0\n".as_slice()
     );
     ended_log_is_accepted(&cnf, &log);
+    additions_are_steps();
     assert!(rt; text.len() < 1000);
     assert!(rt; check_text(alloc, &cnf, &text, &arena).is_ok());
     Ok(())

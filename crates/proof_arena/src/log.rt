@@ -55,8 +55,8 @@ impl<'a> ProofLog<'a> {
         }
     }
 
-    /// Adds a step that holds and whose hints all name clauses, copies its clause and its hints into the arena, and answers the number of its clause. After a refusal the
-    /// log is as it was.
+    /// Adds a step that holds and whose hints all name clauses, copies its clause and its hints into the arena, and answers the number of
+    /// its clause. After a refusal the log is as it was.
     pub fn add(&mut self, lits: &[Lit], hints: &[ClauseId]) -> Result<ClauseId, NoMemory>
         requires holds { StepHolds self.old.vars (clauses_of self.old) lits.now hints.now }
         requires known { All (λ hint. hint < length (clauses_of self.old)) hints.now }

@@ -3,7 +3,7 @@
 //! Each literal of a table has a stamp, and is false where the stamp is the one that counts now. So all marks are taken back by counting
 //! on, and a step costs no more than its own literals and those of its hints. Literals beyond the table stand in an ordered set while
 //! they are false, so that a table may be small where a formula names more variables than it uses.
-ghost use Rattle.std.specs.Prelude.{◌≡◌, ◌||◌, ℕ, ◌+◌, ◌*◌, ◌<◌, ◌^◌, IfOk, OnOk, length, false};
+ghost use Rattle.std.specs.Prelude.{◌≡◌, ◌||◌, ℕ, ◌+◌, ◌*◌, ◌<◌, ◌^◌, IfOk, OnOk, OnErr, length, max, false};
 ghost use Rattle.std.specs.List.{All, list_any};
 ghost use Rattle.rsfq_ids.specs.Formula.{opposite};
 ghost use Rattle.proof_arena.specs.Step.{is_among, makes_false, reading, reads_on};
@@ -16,8 +16,8 @@ use std::alloc::Global;
 use std::collections::BTreeSet;
 use std::marker::Model;
 
-/// Which literals are false, with a table of a size that is set when it is made. Contracts see a bit for each literal of the table, and
-/// the false literals beyond it.
+/// Which literals are false, with a table that `clear_for` alone makes larger. Contracts see a bit for each literal of the table, and the
+/// false literals beyond it.
 #[derive(Drop)]
 pub struct Marks {
     stamps: Vec<u32>,
@@ -66,6 +66,24 @@ impl Marks {
         } else {
             self.count += 1;
         }
+    }
+
+    /// Takes all marks back, and makes a table that is smaller as large as for the literals of so many variables. After a refusal the marks
+    /// are as they were.
+    pub fn clear_for(&mut self, vars: u32) -> Result<(), NoMemory>
+        ensures falses { OnOk result (falses_of self.new ≡ (λ _. false)) }
+        ensures size { OnOk result (length self.new.table ≡ max (length self.old.table) (2 * vars)) }
+        ensures kept { OnErr result (self.new ≡ self.old) }
+    {
+        let size = 2 * vars as usize;
+        if self.stamps.len() < size {
+            match self.stamps.resize(size, 0) {
+                Ok(()) => {}
+                Err(_) => return Err(NoMemory),
+            }
+        }
+        self.clear();
+        Ok(())
     }
 
     /// Makes a literal of the table false. It takes no memory.

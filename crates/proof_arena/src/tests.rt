@@ -43,6 +43,7 @@ fn a_log_ends_with_the_empty_clause(rt: HostRuntime) -> Result<(), Fail> {
     assert_eq!(rt; id.index(), 2);
     assert_eq!(rt; log.steps(), 1);
     assert!(rt; log.ends());
+    log.clauses_follow();
     assert_eq!(rt; log.clause(id).len(), 0);
     assert_eq!(rt; log.hints(id).len(), 2);
     Ok(())

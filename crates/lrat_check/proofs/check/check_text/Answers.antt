@@ -1,4 +1,4 @@
-use Rattle.std.proofs.Common.{Result, Ok, Err, ◌≡◌}
+use Rattle.std.proofs.Common.{Result, Ok, Err}
 use Rattle.std.specs.Prelude.{OnOk}
 use Rattle.lrat_check.proofs.Refutes.{refutes}
 use Rattle.lrat_check.proofs.check.check_text.Goals as goal

@@ -1,5 +1,4 @@
-use Rattle.std.proofs.Common.{◌≡◌, ◌∙◌, ◌+◌, ℕ, Bool, List, Option, ap, sym, drop, get_or, false, arith}
-use Rattle.proof_arena.specs.declared.hint.HintReading.{HintReading}
+use Rattle.std.proofs.Common.{◌∙◌, ◌+◌, ℕ, Bool, ap, sym, drop, get_or, false}
 use Rattle.proof_arena.specs.Step.{makes_false}
 use Rattle.proof_arena.specs.Table.{falses_of}
 use Rattle.dimacs_text.specs.declared.number.Signed.{Signed}

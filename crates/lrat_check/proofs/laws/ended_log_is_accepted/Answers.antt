@@ -1,4 +1,4 @@
-use Rattle.std.proofs.Common.{◌≡◌, ◌+◌, ◌++◌, length, arith, length-append, map}
+use Rattle.std.proofs.Common.{◌≡◌, ◌+◌, ◌++◌, length, arith, length-append}
 use Rattle.std.proofs.lemmas.List.{length-map}
 use Rattle.proof_arena.specs.Log.{LogStep, lits_of}
 use Rattle.lrat_check.proofs.Accepted.{log_accepted}

@@ -5,7 +5,7 @@ use Rattle.lrat_check.specs.Usage.{lrat_command}
 use Rattle.lrat_check.specs.declared.words.WordsFault.TheVariants.{Words}
 use Rattle.lrat_check.proofs.Commands.{lrat_free, lrat_simple}
 use Rattle.lrat_check.proofs.Parses.{by_cause, read_text}
-use Rattle.lrat_check.specs.Grammar.{has_values, values_in}
+use Rattle.lrat_check.specs.Grammar.{values_in}
 use Rattle.lrat_check.proofs.PlainWords.{AllHaveChars, lrat_reads, lrat_takes, none_of, two_of}
 use Rattle.lrat_check.proofs.Utf8Words.{strings_have_chars}
 use Rattle.clap.specs.Words.{Kinds, Text}

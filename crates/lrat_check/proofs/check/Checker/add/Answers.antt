@@ -1,6 +1,5 @@
-use Rattle.std.proofs.Common.{◌≡◌, ◌∙◌, ◌<◌, Bool, ℕ, true, false, ap, sym, refl, arith, Result, Ok, Err}
+use Rattle.std.proofs.Common.{◌≡◌, ◌∙◌, Bool, ℕ, ap, sym, refl, arith, Ok}
 use Rattle.std.proofs.lemmas.Result.{err_from_is_err_and}
-use Rattle.proof_arena.specs.Step.{is_among, is_tautology}
 use Rattle.proof_arena.specs.Table.{falses_of}
 use Rattle.lrat_check.specs.Check.{clause_of, hints_fault, unless_why, added, with_clause, Known}
 use Rattle.lrat_check.specs.Tables.{found_of, known_of}
@@ -11,20 +10,20 @@ use Rattle.lrat_check.proofs.check.Checker.add.Goals.{then-self, else-self}
 pub returns-then-has_true-clause-err : goal.returns-then-has_true-clause-err
 returns-then-has_true-clause-err c apart =
     let lits = clause_of c.args.lits.now in
-    let first : c.deref.result.now ≡ lits = c.deref.ensures.value ∙ c.in_ok-read_clause.ensures.ok.1 in
-    let second : c.deref-2.result.now ≡ lits = c.deref-2.ensures.value ∙ c.in_ok-read_clause.ensures.ok.1 in
-    let falses = denied lits c.deref.result.now (falses_of c.deny_any.new.self) (falses_of c.clear.new.self) first c.in_ok-deny_any.ensures.falses c.clear.ensures.falses in
-    let taut = told lits c.deref-2.result.now (falses_of c.deny_any.new.self) c.has_true.result second falses c.has_true.ensures in
+    let first : c.deref-2.result.now ≡ lits = c.deref-2.ensures.value ∙ c.in_ok-read_clause.ensures.ok.1 in
+    let second : c.deref-3.result.now ≡ lits = c.deref-3.ensures.value ∙ c.in_ok-read_clause.ensures.ok.1 in
+    let falses = denied lits c.deref-2.result.now (falses_of c.deny_any.new.self) (falses_of c.clear_for.new.self) first c.in_ok-deny_any.ensures.falses c.in_ok-clear_for.ensures.falses in
+    let taut = told lits c.deref-3.result.now (falses_of c.deny_any.new.self) c.has_true.result second falses c.has_true.ensures in
     ap (λ f. unless_why f (added (known_of c.args.self.now) c.args.id lits))
     (is_tautologous c.args.self.now.vars (known_of c.args.self.now) c.args.id c.args.lits.now c.args.hints.now (omega arith) c.in_ok-read_clause.ensures.ok.0 (taut ∙ c.if-has_true.true))
 
 pub returns-in_err-find_conflict-clause-err : goal.returns-in_err-find_conflict-clause-err
 returns-in_err-find_conflict-clause-err c =
     let lits = clause_of c.args.lits.now in
-    let first : c.deref.result.now ≡ lits = c.deref.ensures.value ∙ c.in_ok-read_clause.ensures.ok.1 in
-    let second : c.deref-2.result.now ≡ lits = c.deref-2.ensures.value ∙ c.in_ok-read_clause.ensures.ok.1 in
-    let falses = denied lits c.deref.result.now (falses_of c.deny_any.new.self) (falses_of c.clear.new.self) first c.in_ok-deny_any.ensures.falses c.clear.ensures.falses in
-    let taut = told lits c.deref-2.result.now (falses_of c.deny_any.new.self) c.has_true.result second falses c.has_true.ensures in
+    let first : c.deref-2.result.now ≡ lits = c.deref-2.ensures.value ∙ c.in_ok-read_clause.ensures.ok.1 in
+    let second : c.deref-3.result.now ≡ lits = c.deref-3.ensures.value ∙ c.in_ok-read_clause.ensures.ok.1 in
+    let falses = denied lits c.deref-2.result.now (falses_of c.deny_any.new.self) (falses_of c.clear_for.new.self) first c.in_ok-deny_any.ensures.falses c.in_ok-clear_for.ensures.falses in
+    let taut = told lits c.deref-3.result.now (falses_of c.deny_any.new.self) c.has_true.result second falses c.has_true.ensures in
     let p = err_from_is_err_and c.from_residual-in_err-find_conflict.result c.from_residual-in_err-find_conflict.ensures.1 in
     rw (p.1, p.2) (λ apart.
     ap (λ f. unless_why f (added (known_of c.args.self.now) c.args.id lits))
@@ -35,11 +34,11 @@ returns-in_err-find_conflict-clause-err c =
 pub returns-clause-ok : goal.returns-clause-ok
 returns-clause-ok c =
     let lits = clause_of c.args.lits.now in
-    let first : c.deref.result.now ≡ lits = c.deref.ensures.value ∙ c.in_ok-read_clause.ensures.ok.1 in
-    let second : c.deref-2.result.now ≡ lits = c.deref-2.ensures.value ∙ c.in_ok-read_clause.ensures.ok.1 in
-    let third : c.deref-3.result.now ≡ lits = c.deref-3.ensures.value ∙ c.in_ok-read_clause.ensures.ok.1 in
-    let falses = denied lits c.deref.result.now (falses_of c.deny_any.new.self) (falses_of c.clear.new.self) first c.in_ok-deny_any.ensures.falses c.clear.ensures.falses in
-    let taut = told lits c.deref-2.result.now (falses_of c.deny_any.new.self) c.has_true.result second falses c.has_true.ensures in
+    let first : c.deref-2.result.now ≡ lits = c.deref-2.ensures.value ∙ c.in_ok-read_clause.ensures.ok.1 in
+    let second : c.deref-3.result.now ≡ lits = c.deref-3.ensures.value ∙ c.in_ok-read_clause.ensures.ok.1 in
+    let third : c.deref-4.result.now ≡ lits = c.deref-4.ensures.value ∙ c.in_ok-read_clause.ensures.ok.1 in
+    let falses = denied lits c.deref-2.result.now (falses_of c.deny_any.new.self) (falses_of c.clear_for.new.self) first c.in_ok-deny_any.ensures.falses c.in_ok-clear_for.ensures.falses in
+    let taut = told lits c.deref-3.result.now (falses_of c.deny_any.new.self) c.has_true.result second falses c.has_true.ensures in
     ap (λ f. unless_why f (added (known_of c.args.self.now) c.args.id lits))
     (is_judged c.args.self.now.vars (known_of c.args.self.now) c.args.id c.args.lits.now c.args.hints.now (omega arith) c.in_ok-read_clause.ensures.ok.0 (taut ∙ c.if-has_true.false)
     ∙ ap (λ (f : ℕ → Bool). hints_fault (found_of c.args.self.now.table) f c.args.hints.now) (sym falses)

@@ -3,5 +3,5 @@ use Rattle.lrat_check.specs.Tables.{found_of}
 use Rattle.lrat_check.proofs.CheckSays.{first_known}
 use Rattle.lrat_check.proofs.check.Checker.new.Goals as goal
 
-pub returns : goal.returns
-returns c = (refl, first_known c.args.cnf.now (found_of c.in_ok-new.field-0) c.len-clauses.result c.in_ok-new.ensures c.len-clauses.ensures)
+pub returns-clause-known : goal.returns-clause-known
+returns-clause-known c = (refl, first_known c.args.cnf.now (found_of c.in_ok-new.field-0) c.len.result c.in_ok-new.ensures c.len.ensures)

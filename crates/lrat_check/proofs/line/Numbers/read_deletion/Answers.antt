@@ -1,4 +1,4 @@
-use Rattle.std.proofs.Common.{◌≡◌, ◌∙◌, List, ap, sym, drop, true, false}
+use Rattle.std.proofs.Common.{◌∙◌, List, ap, sym, drop}
 use Rattle.std.specs.List.{list_any}
 use Rattle.dimacs_text.specs.Parts.{words, is_space}
 use Rattle.dimacs_text.specs.declared.number.Signed.{Signed}

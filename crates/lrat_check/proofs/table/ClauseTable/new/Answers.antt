@@ -1,4 +1,4 @@
-use Rattle.std.proofs.Common.{◌≡◌, ◌∙◌, ◌+◌, ap, arith, take}
+use Rattle.std.proofs.Common.{◌∙◌, ◌+◌, ap, arith, take}
 use Rattle.lrat_check.specs.Check.{Found, given_at, with_clause}
 use Rattle.lrat_check.proofs.CheckSays.{given_more, whole}
 use Rattle.lrat_check.proofs.table.ClauseTable.new.Goals as goal
