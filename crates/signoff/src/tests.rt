@@ -108,9 +108,9 @@ const NESTED: &[u8] =
 
 // Each row: a netlist, the numbers, and the answer.
 #[test]
-fn rows_of_netlists(rt: HostRuntime) -> Result<(), Fail> {
+fn rows_of_wires(rt: HostRuntime) -> Result<(), Fail> {
     let alloc = rt.alloc();
-    let rows: [(&[u8], [&str; 3], Status, &[u8]); 39] = [
+    let rows: [(&[u8], [&str; 3], Status, &[u8]); 10] = [
         (CHAIN, ["20000", "4000", "6000"], Status::Accepted, ACCEPTED),
         (
             CHAIN,
@@ -169,6 +169,24 @@ fn rows_of_netlists(rt: HostRuntime) -> Result<(), Fail> {
             Status::Accepted,
             b"accepted\ndepth y[0] 1 from a[0]\ndepth y[1] 1 from a[1]\n",
         ),
+    ];
+    for (netlist, [period, low, high], status, text) in rows {
+        let mut folder = MemoryFolder::new(alloc, Vec::new(alloc));
+        folder.put("n.v", netlist)?;
+        let mut out = MemorySink::new(alloc, 1000, Vec::new(alloc))?;
+        let given = words_of(alloc, &["n.v", period, low, high])?;
+        let answer = sign_off_run(alloc, &given, &mut folder, &mut out);
+        assert_eq!(rt; answer, status, "{:?}", netlist);
+        assert_eq!(rt; out.bytes(), text, "{:?}", netlist);
+    }
+    Ok(())
+}
+
+// Each row: a netlist, the numbers, and the answer.
+#[test]
+fn rows_of_forms(rt: HostRuntime) -> Result<(), Fail> {
+    let alloc = rt.alloc();
+    let rows: [(&[u8], [&str; 3], Status, &[u8]); 10] = [
         // Instances inside an instance.
         (
             NESTED,
@@ -235,6 +253,24 @@ fn rows_of_netlists(rt: HostRuntime) -> Result<(), Fail> {
             Status::Refused,
             FORM,
         ),
+    ];
+    for (netlist, [period, low, high], status, text) in rows {
+        let mut folder = MemoryFolder::new(alloc, Vec::new(alloc));
+        folder.put("n.v", netlist)?;
+        let mut out = MemorySink::new(alloc, 1000, Vec::new(alloc))?;
+        let given = words_of(alloc, &["n.v", period, low, high])?;
+        let answer = sign_off_run(alloc, &given, &mut folder, &mut out);
+        assert_eq!(rt; answer, status, "{:?}", netlist);
+        assert_eq!(rt; out.bytes(), text, "{:?}", netlist);
+    }
+    Ok(())
+}
+
+// Each row: a netlist, the numbers, and the answer.
+#[test]
+fn rows_of_circuits(rt: HostRuntime) -> Result<(), Fail> {
+    let alloc = rt.alloc();
+    let rows: [(&[u8], [&str; 3], Status, &[u8]); 10] = [
         // A name that two JTLs read, and one that a JTL reads and that is an output.
         (
             b"module top(input clk, input a, output y, output z);\nJTL j(.a(a), .q(y));\nJTL k(.a(a), .q(z));\nendmodule\n",
@@ -302,6 +338,24 @@ fn rows_of_netlists(rt: HostRuntime) -> Result<(), Fail> {
             Status::Refused,
             b"refused flat alias loop u v\n",
         ),
+    ];
+    for (netlist, [period, low, high], status, text) in rows {
+        let mut folder = MemoryFolder::new(alloc, Vec::new(alloc));
+        folder.put("n.v", netlist)?;
+        let mut out = MemorySink::new(alloc, 1000, Vec::new(alloc))?;
+        let given = words_of(alloc, &["n.v", period, low, high])?;
+        let answer = sign_off_run(alloc, &given, &mut folder, &mut out);
+        assert_eq!(rt; answer, status, "{:?}", netlist);
+        assert_eq!(rt; out.bytes(), text, "{:?}", netlist);
+    }
+    Ok(())
+}
+
+// Each row: a netlist, the numbers, and the answer.
+#[test]
+fn rows_of_texts(rt: HostRuntime) -> Result<(), Fail> {
+    let alloc = rt.alloc();
+    let rows: [(&[u8], [&str; 3], Status, &[u8]); 9] = [
         // The clock alone.
         (
             b"module top(input clk);\nendmodule\n",
