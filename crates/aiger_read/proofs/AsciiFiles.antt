@@ -39,7 +39,7 @@ use Rattle.aiger_read.proofs.FileListings.{is_listing, names_inside}
 
 -- ---- lines of what is listed
 
-zip_map : {A B : Type 0} (R : List ℕ → B → Type 0) (f : A → B) (lines : List (List ℕ)) (items : List A) → AllZip (λ text item. R text (f item)) lines items → AllZip R lines (map f items)
+pub zip_map : {A B : Type 0} (R : List ℕ → B → Type 0) (f : A → B) (lines : List (List ℕ)) (items : List A) → AllZip (λ text item. R text (f item)) lines items → AllZip R lines (map f items)
 zip_map R f [] [] all = tt
 zip_map R f [] (x ∷ xs) all = absurd all
 zip_map R f (line ∷ lines) [] all = absurd all
@@ -85,7 +85,7 @@ more_count one (suc count) front bytes xs e =
     longer [] x n = omega arith
     longer (y ∷ ys) x n = let more = longer ys x n in omega arith
 
-length_map : {A B : Type 0} (f : A → B) (xs : List A) → length (map f xs) ≡ length xs
+pub length_map : {A B : Type 0} (f : A → B) (xs : List A) → length (map f xs) ≡ length xs
 length_map f [] = refl
 length_map f (x ∷ xs) = ap suc (length_map f xs)
 
@@ -96,7 +96,7 @@ ascii_counts h line i o a inputs outputs ands is =
 ascii_room : (h : Header) (i a : ℕ) → i ≡ h.inputs → a ≡ h.ands → fits_form form.Ascii h ≡ true → i + a ≤ h.variables
 ascii_room h i a inputs ands fits = let le = leb-true (h.inputs + h.ands) h.variables fits in omega arith
 
-le_self : (n : ℕ) → n ≤ n
+pub le_self : (n : ℕ) → n ≤ n
 le_self n = omega arith
 
 text_parts : (bytes : List ℕ) (text : Text) → text_at bytes ≡ given text → TextParts bytes (listing_of text)
@@ -270,7 +270,7 @@ low_literal listing l literal (inr (at, is)) =
     let high = d.3 in
     omega arith
 
-known : (defined : List ℕ) (used : Used) → IsDefined defined used.literal → use_known_at defined used ≡ given tt
+pub known : (defined : List ℕ) (used : Used) → IsDefined defined used.literal → use_known_at defined used ≡ given tt
 known defined used (inl none) = rw (eq-eqb (used.literal / 2) 0 none) refl
 known defined used (inr (at, is)) = go (used.literal / 2 == 0) (in_at defined at (2 * (used.literal / 2)) is) where
   go : (b : Bool) → is_in defined (2 * (used.literal / 2)) ≡ true → cond {A = Result (Unit {0}) Stop} (b || is_in defined (2 * (used.literal / 2))) (Ok tt) (Err (record { left = used.left; why = why.Undefined used.literal })) ≡ given {A = Unit {0}} tt

@@ -74,7 +74,7 @@ more_written {A} {B} R f P one step (line ∷ lines) (b ∷ bs) front bytes rest
 
 -- ---- numbers in a line
 
-definition_number : (top : ℕ) (defined bytes : List ℕ) (x : ℕ × List ℕ) → definition_at top defined bytes ≡ given x → number_at bytes ≡ given x
+pub definition_number : (top : ℕ) (defined bytes : List ℕ) (x : ℕ × List ℕ) → definition_at top defined bytes ≡ given x → number_at bytes ≡ given x
 unfolding definition_at
 definition_number top defined bytes x e =
     let number = bind_ok (number_at bytes) (λ n. cond (is_out top n.0) (Err (fault (why.Range n.0) bytes)) (Ok n) >>= λ y. cond (is_in defined y.0) (Err (fault (why.Defined y.0) bytes)) (Ok (y.0, y.1))) x e in
@@ -88,7 +88,7 @@ definition_number top defined bytes x e =
 abbrev pub number_pair : ℕ → List ℕ → ℕ × List ℕ
 number_pair n rest = (n, rest)
 
-use_number : (top : ℕ) (bytes : List ℕ) (x : Used × List ℕ) → use_at top bytes ≡ given x → number_at bytes ≡ given (number_pair x.0.literal x.1)
+pub use_number : (top : ℕ) (bytes : List ℕ) (x : Used × List ℕ) → use_at top bytes ≡ given x → number_at bytes ≡ given (number_pair x.0.literal x.1)
 unfolding use_at
 use_number top bytes x e =
     let number = bind_ok (number_at bytes) (λ n. cond (nat_lt (2 * top + 1) n.0) (Err (fault (why.Range n.0) bytes)) (Ok (record { literal = n.0; left = length bytes }, n.1))) x e in
@@ -101,7 +101,7 @@ use_written : (top n : ℕ) (bytes rest : List ℕ) → number_at bytes ≡ give
 unfolding use_at
 use_written top n bytes rest read le = rw (read, le-ltb (2 * top + 1) n le) refl
 
-start_same : (bytes line : List ℕ) → start_at bytes ≡ given line → bytes ≡ line
+pub start_same : (bytes line : List ℕ) → start_at bytes ≡ given line → bytes ≡ line
 start_same bytes line e = let s = unless_ok (length bytes == 0) (fault why.Truncated []) (Ok bytes) line e in same_value bytes line s.1
 
 start_written : (text bytes rest : List ℕ) → LineAt text bytes rest → start_at bytes ≡ given bytes
@@ -124,7 +124,7 @@ input_read top defined bytes x e =
 abbrev pub WritesUse : List ℕ → Used → Type 0
 WritesUse text used = WritesNumber text used.literal
 
-abbrev use_pair : Used → List ℕ → Used × List ℕ
+abbrev pub use_pair : Used → List ℕ → Used × List ℕ
 use_pair used rest = (used, rest)
 
 pub output_read : (top : ℕ) → ReadsLines WritesUse (λ front. output_at top)
@@ -190,7 +190,7 @@ output_written top front text bytes rest b bs low w at =
 
 -- ---- ANDs
 
-gap_read : (bytes rest : List ℕ) → gap_at bytes ≡ given rest → bytes ≡ 32 ∷ rest
+pub gap_read : (bytes rest : List ℕ) → gap_at bytes ≡ given rest → bytes ≡ 32 ∷ rest
 gap_read [] rest e = absurd cc
 gap_read (b ∷ bs) rest e =
     let test = when_ok (b == 32) (fault why.Number (b ∷ bs)) (Ok bs) rest e in
@@ -203,7 +203,7 @@ line_of lhs rhs0 rhs1 = record { lhs = lhs; rhs0 = rhs0; rhs1 = rhs1 }
 abbrev pub WritesLine : List ℕ → Line → Type 0
 WritesLine text line = IsAndLine text (and_of line)
 
-three_parts : (a b c tail : List ℕ) → (a ++ in_fields (b ∷ c ∷ [])) ++ tail ≡ a ++ 32 ∷ (b ++ 32 ∷ (c ++ tail))
+pub three_parts : (a b c tail : List ℕ) → (a ++ in_fields (b ∷ c ∷ [])) ++ tail ≡ a ++ 32 ∷ (b ++ 32 ∷ (c ++ tail))
 three_parts a b c tail =
     append_assoc a (in_fields (b ∷ c ∷ [])) tail
     ∙ ap (λ (r : List ℕ). a ++ 32 ∷ r) (append_assoc b (in_fields (c ∷ [])) tail ∙ ap (λ (r : List ℕ). b ++ 32 ∷ r) (append_assoc c [] tail))

@@ -69,12 +69,12 @@ literal_written top bytes n rest field w at le =
 abbrev lists : List ℕ → List ℕ → List ℕ × List ℕ
 lists literals rest = (literals, rest)
 
-record LiteralLines (bytes : List ℕ) (literals : List ℕ) (rest : List ℕ) : Type 0 where
-  lines : List (List ℕ)
-  write : AllZip WritesNumber lines literals
-  at : LinesAt lines bytes rest
+pub record LiteralLines (bytes : List ℕ) (literals : List ℕ) (rest : List ℕ) : Type 0 where
+  pub lines : List (List ℕ)
+  pub write : AllZip WritesNumber lines literals
+  pub at : LinesAt lines bytes rest
 
-literals_read : (top count place : ℕ) (bytes literals rest : List ℕ) → many_at (λ p. literal_at top) place count bytes ≡ given (literals, rest) → LiteralLines bytes literals rest
+pub literals_read : (top count place : ℕ) (bytes literals rest : List ℕ) → many_at (λ p. literal_at top) place count bytes ≡ given (literals, rest) → LiteralLines bytes literals rest
 unfolding many_at
 literals_read top zero place bytes literals rest e =
     let is = same_value (lists [] bytes) (lists literals rest) e in
@@ -153,12 +153,12 @@ and_begins text one rest w lt =
 abbrev and_list : List And → List ℕ → List And × List ℕ
 and_list xs rest = (xs, rest)
 
-record AndTexts (bytes : List ℕ) (xs : List And) (rest : List ℕ) : Type 0 where
-  texts : List (List ℕ)
-  write : AllZip WritesAnd texts xs
-  parts : bytes ≡ concat texts ++ rest
+pub record AndTexts (bytes : List ℕ) (xs : List And) (rest : List ℕ) : Type 0 where
+  pub texts : List (List ℕ)
+  pub write : AllZip WritesAnd texts xs
+  pub parts : bytes ≡ concat texts ++ rest
 
-ands_read : (inputs count place : ℕ) (bytes : List ℕ) (xs : List And) (rest : List ℕ) → many_at (λ p. and_at (2 * (inputs + p + 1))) place count bytes ≡ given (and_list xs rest) → AndTexts bytes xs rest
+pub ands_read : (inputs count place : ℕ) (bytes : List ℕ) (xs : List And) (rest : List ℕ) → many_at (λ p. and_at (2 * (inputs + p + 1))) place count bytes ≡ given (and_list xs rest) → AndTexts bytes xs rest
 unfolding many_at
 ands_read inputs zero place bytes xs rest e =
     let is = same_value (and_list [] bytes) (and_list xs rest) e in
@@ -305,7 +305,7 @@ file_of bytes aig f = elim (written (f.head ∷ f.outputs) bytes f.r1 (f.r0, f.h
 aig_of : ℕ → List And → List ℕ → Entries → Entries → Aig
 aig_of inputs xs outputs ins outs = record { inputs = inputs; ands = xs; outputs = outputs; in_names = ins; out_names = outs }
 
-many_count : {A : Type 0} (one : ℕ → List ℕ → Result (A × List ℕ) Stop) (count place : ℕ) (bytes : List ℕ) (x : List A × List ℕ) → many_at one place count bytes ≡ given x → length x.0 ≡ count
+pub many_count : {A : Type 0} (one : ℕ → List ℕ → Result (A × List ℕ) Stop) (count place : ℕ) (bytes : List ℕ) (x : List A × List ℕ) → many_at one place count bytes ≡ given x → length x.0 ≡ count
 unfolding many_at
 many_count {A} one zero place bytes x e = sym (ap (λ (p : List A × List ℕ). length p.0) (same_value ([], bytes) x e))
 many_count {A} one (suc count) place bytes x e =
@@ -314,7 +314,7 @@ many_count {A} one (suc count) place bytes x e =
     let is = same_value (first.0.0 ∷ others.0.0, others.0.1) x others.2 in
     sym (ap (λ (p : List A × List ℕ). length p.0) is) ∙ ap suc (many_count one count (place + 1) first.0.1 others.0 others.1)
 
-head_counts : (h : Header) (line : List ℕ) (o a : ℕ) → o ≡ h.outputs → a ≡ h.ands → fits_form form.Binary h ≡ true → IsHeadLine form.Binary h.variables h.inputs h.outputs h.ands line → IsHeadLine form.Binary (h.inputs + a) h.inputs o a line
+pub head_counts : (h : Header) (line : List ℕ) (o a : ℕ) → o ≡ h.outputs → a ≡ h.ands → fits_form form.Binary h ≡ true → IsHeadLine form.Binary h.variables h.inputs h.outputs h.ands line → IsHeadLine form.Binary (h.inputs + a) h.inputs o a line
 head_counts h line o a outputs ands fits is =
     let sum : h.variables ≡ h.inputs + h.ands = eqb-true h.variables (h.inputs + h.ands) fits in
     let variables : h.variables ≡ h.inputs + a = sum ∙ ap (λ (n : ℕ). h.inputs + n) (sym ands) in

@@ -8,7 +8,7 @@ use Rattle.aiger_read.specs.declared.fault.AigerWhy.TheVariants as why
 use Rattle.aiger_read.specs.Reading.{fault, groups_at, with_low, is_cut, difference_or, difference_at}
 use Rattle.aiger_read.specs.Spelling.{WriteGroups, BeginsWithDifference, DifferencesAreRead}
 
-more_groups : (b high n : ℕ) (front : List ℕ) → 128 ≤ b → n + 128 ≡ b + 128 * high → WriteGroups front high → WriteGroups (b ∷ front) n
+pub more_groups : (b high n : ℕ) (front : List ℕ) → 128 ≤ b → n + 128 ≡ b + 128 * high → WriteGroups front high → WriteGroups (b ∷ front) n
 more_groups b high n [] le sum groups = absurd groups
 more_groups b high n (c ∷ bs) le sum groups = (le, high, sum, groups)
 

@@ -47,11 +47,11 @@ tail_spaces tail rest (inr (empty, none)) = rw empty refl
 
 -- ---- a field and a space, and the last field
 
-record Spaced (bytes : List ℕ) (n k : ℕ) (rest : List ℕ) : Type 0 where
-  field : List ℕ
-  parts : bytes ≡ field ++ 32 ∷ rest
-  writes : WritesNumber field n
-  left : spaces_in rest ≡ k
+pub record Spaced (bytes : List ℕ) (n k : ℕ) (rest : List ℕ) : Type 0 where
+  pub field : List ℕ
+  pub parts : bytes ≡ field ++ 32 ∷ rest
+  pub writes : WritesNumber field n
+  pub left : spaces_in rest ≡ k
 
 record Last (bytes : List ℕ) (n : ℕ) (rest : List ℕ) : Type 0 where
   field : List ℕ
@@ -80,7 +80,7 @@ is_end (x ∷ xs) rest stops count behind = go (x == 32) (x == 10) refl refl sto
   go true false s_is n_is h c = absurd (omega arith)
   go false false s_is n_is h c = absurd (omega arith)
 
-spaced : (bytes : List ℕ) (n k : ℕ) (rest : List ℕ) → field_at bytes ≡ given (n, rest) → spaces_in bytes ≡ suc k → Spaced bytes n k rest
+pub spaced : (bytes : List ℕ) (n k : ℕ) (rest : List ℕ) → field_at bytes ≡ given (n, rest) → spaces_in bytes ≡ suc k → Spaced bytes n k rest
 spaced bytes n k rest e count =
     let read = field_read bytes n rest e in
     let field = read.1 in
@@ -106,17 +106,17 @@ end_behind field tail rest n w ends = field_written field tail n w (tail_stops t
 
 -- ---- the last needed number and the further ones
 
-record Further (bytes : List ℕ) (n z : ℕ) (rest : List ℕ) : Type 0 where
-  field : List ℕ
-  further : List (List ℕ)
-  tail : List ℕ
-  parts : bytes ≡ field ++ (in_fields further ++ tail)
-  writes : WritesNumber field n
-  many : length further ≡ z
-  zeros : AllZip WritesNumber further (replicate (length further) 0)
-  ends : IsTail tail rest
+pub record Further (bytes : List ℕ) (n z : ℕ) (rest : List ℕ) : Type 0 where
+  pub field : List ℕ
+  pub further : List (List ℕ)
+  pub tail : List ℕ
+  pub parts : bytes ≡ field ++ (in_fields further ++ tail)
+  pub writes : WritesNumber field n
+  pub many : length further ≡ z
+  pub zeros : AllZip WritesNumber further (replicate (length further) 0)
+  pub ends : IsTail tail rest
 
-further : (z : ℕ) (bytes : List ℕ) (n : ℕ) (behind rest : List ℕ) → field_at bytes ≡ given (n, behind) → zeros_at z behind ≡ given rest → spaces_in bytes ≡ z → Further bytes n z rest
+pub further : (z : ℕ) (bytes : List ℕ) (n : ℕ) (behind rest : List ℕ) → field_at bytes ≡ given (n, behind) → zeros_at z behind ≡ given rest → spaces_in bytes ≡ z → Further bytes n z rest
 further zero bytes n behind rest e zeros count =
     let l = last bytes n behind e count in
     let same : behind ≡ rest = same_value behind rest zeros in
@@ -166,20 +166,20 @@ further_spaces field n (other ∷ others) tail rest w zeros ends =
 
 -- ---- the word
 
-three_true : (a b c : Bool) → (a && b && c) ≡ true → (a ≡ true) × (b ≡ true) × (c ≡ true)
+pub three_true : (a b c : Bool) → (a && b && c) ≡ true → (a ≡ true) × (b ≡ true) × (c ≡ true)
 three_true true true c e = (refl, refl, e)
 three_true true false c e = absurd cc
 three_true false b c e = absurd cc
 
-begins : (form : Form) (bytes : List ℕ) → starts_with nat_eq bytes (word_of form) ≡ true → bytes ≡ word_of form ++ drop 4 bytes
+pub begins : (form : Form) (bytes : List ℕ) → starts_with nat_eq bytes (word_of form) ≡ true → bytes ≡ word_of form ++ drop 4 bytes
 begins form.Ascii bytes e = sym (take-append-drop 4 bytes) ∙ ap (λ (w : List ℕ). w ++ drop 4 bytes) (sym ((bytes_eq-Decides (word_of form.Ascii) (take 4 bytes)).0 e))
 begins form.Binary bytes e = sym (take-append-drop 4 bytes) ∙ ap (λ (w : List ℕ). w ++ drop 4 bytes) (sym ((bytes_eq-Decides (word_of form.Binary) (take 4 bytes)).0 e))
 
-word_spaces : (form : Form) (bytes : List ℕ) → spaces_in (word_of form ++ bytes) ≡ suc (spaces_in bytes)
+pub word_spaces : (form : Form) (bytes : List ℕ) → spaces_in (word_of form ++ bytes) ≡ suc (spaces_in bytes)
 word_spaces form.Ascii bytes = omega arith
 word_spaces form.Binary bytes = omega arith
 
-word_begins : (form : Form) (bytes : List ℕ) → starts_with nat_eq (word_of form ++ bytes) (word_of form) ≡ true
+pub word_begins : (form : Form) (bytes : List ℕ) → starts_with nat_eq (word_of form ++ bytes) (word_of form) ≡ true
 word_begins form.Ascii bytes = refl
 word_begins form.Binary bytes = refl
 
@@ -213,7 +213,7 @@ fewer n k low high is =
     let h : n ≤ 9 = leb-true n 9 high in
     (n - 5, omega arith, refl, omega arith)
 
-limited : (bytes : List ℕ) (x : ℕ × List ℕ) → variables_at bytes ≡ given x → (field_at bytes ≡ given x) × (x.0 ≤ 1000000)
+pub limited : (bytes : List ℕ) (x : ℕ × List ℕ) → variables_at bytes ≡ given x → (field_at bytes ≡ given x) × (x.0 ≤ 1000000)
 limited bytes x e =
     let field = bind_ok (field_at bytes) (λ n. cond (nat_lt 1000000 n.0) (Err (fault (why.Limit n.0) bytes)) (Ok (n.0, n.1))) x e in
     let limit = unless_ok (nat_lt 1000000 field.0.0) (fault (why.Limit field.0.0) bytes) (Ok (field.0.0, field.0.1)) x field.2 in
@@ -221,7 +221,7 @@ limited bytes x e =
     let le : field.0.0 ≤ 1000000 = ltb-false 1000000 field.0.0 limit.0 in
     (field.1 ∙ ap given same, subst (λ (y : ℕ × List ℕ). y.0 ≤ 1000000) same le)
 
-no_latches : (bytes rest : List ℕ) → latches_at bytes ≡ given rest → field_at bytes ≡ given (0, rest)
+pub no_latches : (bytes rest : List ℕ) → latches_at bytes ≡ given rest → field_at bytes ≡ given (0, rest)
 no_latches bytes rest e =
     let field = bind_ok (field_at bytes) (λ x. cond (x.0 == 0) (Ok x.1) (Err (fault why.Latches bytes))) rest e in
     let none = when_ok (field.0.0 == 0) (fault why.Latches bytes) (Ok field.0.1) rest field.2 in
@@ -239,7 +239,7 @@ all_parts m i l o a others tail =
     ∙ ap (λ (b : List ℕ). o ++ 32 ∷ b) (append_assoc a (in_fields others) tail))))
 
 -- the line of five numbers and the further ones
-line_made : (form : Form) (bytes b1 b2 b3 b4 b5 rest : List ℕ) (variables inputs outputs ands z : ℕ) → bytes ≡ word_of form ++ b1 → Spaced b1 variables (suc (suc (suc z))) b2 → Spaced b2 inputs (suc (suc z)) b3 → Spaced b3 0 (suc z) b4 → Spaced b4 outputs z b5
+pub line_made : (form : Form) (bytes b1 b2 b3 b4 b5 rest : List ℕ) (variables inputs outputs ands z : ℕ) → bytes ≡ word_of form ++ b1 → Spaced b1 variables (suc (suc (suc z))) b2 → Spaced b2 inputs (suc (suc z)) b3 → Spaced b3 0 (suc z) b4 → Spaced b4 outputs z b5
     → Further b5 ands z rest → z ≤ 4 → (line : List ℕ) × IsHeadLine form variables inputs outputs ands line × LineAt line bytes rest
 line_made form bytes b1 b2 b3 b4 b5 rest variables inputs outputs ands z word sm si sl so more le = (
   word_of form ++ numbers,

@@ -3,6 +3,7 @@ pub mod Digits
 pub mod SymbolLines
 pub mod WellFormed
 pub mod Numbers
+pub mod Faults
 pub mod Groups
 pub mod AndLaws
 pub mod Marks
@@ -19,3 +20,10 @@ pub mod AsciiLines
 pub mod FileListings
 pub mod AsciiFiles
 pub mod Both
+pub mod BrokenLines
+pub mod BrokenBinary
+pub mod BrokenSymbols
+pub mod BrokenHead
+pub mod BrokenAscii
+pub mod BrokenUses
+pub mod Broken

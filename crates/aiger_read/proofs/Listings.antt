@@ -30,7 +30,7 @@ more_keeps one Q step (suc count) front bytes xs q e =
     let first = bind_ok (one front bytes) (λ x. more_at one count (front ++ x.0 ∷ []) x.1) xs e in
     more_keeps one Q step count (front ++ first.0.0 ∷ []) first.0.1 xs (step front bytes first.0 q first.1) first.2
 
-more_many : {A : Type 0} (one : List A → List ℕ → Result (A × List ℕ) Stop) (count : ℕ) (front : List A) (bytes : List ℕ) (xs : List A × List ℕ) → more_at one count front bytes ≡ Ok xs → length xs.0 ≡ length front + count
+pub more_many : {A : Type 0} (one : List A → List ℕ → Result (A × List ℕ) Stop) (count : ℕ) (front : List A) (bytes : List ℕ) (xs : List A × List ℕ) → more_at one count front bytes ≡ Ok xs → length xs.0 ≡ length front + count
 more_many {A} one zero front bytes xs e = ap (λ (p : List A × List ℕ). length p.0) (sym (same_value (front, bytes) xs e)) ∙ omega arith
 more_many one (suc count) front bytes xs e =
     let first = bind_ok (one front bytes) (λ x. more_at one count (front ++ x.0 ∷ []) x.1) xs e in
@@ -40,10 +40,10 @@ more_many one (suc count) front bytes xs e =
 
 -- ---- what one line says
 
-abbrev IsNew : ℕ → List ℕ → ℕ → Type 0
+abbrev pub IsNew : ℕ → List ℕ → ℕ → Type 0
 IsNew top defined literal = (is_out top literal ≡ false) × (is_in defined literal ≡ false)
 
-definition_new : (top : ℕ) (defined bytes : List ℕ) (x : ℕ × List ℕ) → definition_at top defined bytes ≡ Ok x → IsNew top defined x.0
+pub definition_new : (top : ℕ) (defined bytes : List ℕ) (x : ℕ × List ℕ) → definition_at top defined bytes ≡ Ok x → IsNew top defined x.0
 unfolding definition_at
 definition_new top defined bytes x e =
     let number = bind_ok (number_at bytes) (λ n. cond (is_out top n.0) (Err (fault (why.Range n.0) bytes)) (Ok n) >>= λ y. cond (is_in defined y.0) (Err (fault (why.Defined y.0) bytes)) (Ok (y.0, y.1))) x e in
@@ -54,7 +54,7 @@ definition_new top defined bytes x e =
     let last : inside.0.0 ≡ x.0 = ap (λ (p : ℕ × List ℕ). p.0) (same_value (inside.0.0, inside.0.1) x new.1) in
     subst (IsNew top defined) last (ap (is_out top) (sym same) ∙ range.0, new.0)
 
-use_inside : (top : ℕ) (bytes : List ℕ) (x : Used × List ℕ) → use_at top bytes ≡ Ok x → x.0.literal / 2 ≤ top
+pub use_inside : (top : ℕ) (bytes : List ℕ) (x : Used × List ℕ) → use_at top bytes ≡ Ok x → x.0.literal / 2 ≤ top
 unfolding use_at
 use_inside top bytes x e =
     let number = bind_ok (number_at bytes) (λ n. cond (nat_lt (2 * top + 1) n.0) (Err (fault (why.Range n.0) bytes)) (Ok (record { literal = n.0; left = length bytes }, n.1))) x e in
@@ -121,7 +121,7 @@ at_in (x ∷ defined) literal e = go (x == literal) refl e (at_in defined litera
 abbrev pub AreGood : ℕ → List ℕ → Type 0
 AreGood top defined = ((at literal : ℕ) → slice_get defined at ≡ Some literal → IsDefinition top literal) × HoldsOnce defined
 
-new_definition : (top literal : ℕ) → is_out top literal ≡ false → IsDefinition top literal
+pub new_definition : (top literal : ℕ) → is_out top literal ≡ false → IsDefinition top literal
 new_definition top literal out =
     let three = or_false (nat_lt (2 * top + 1) literal || literal % 2 == 1) (nat_lt literal 2) out in
     let two = or_false (nat_lt (2 * top + 1) literal) (literal % 2 == 1) three.0 in
@@ -177,24 +177,24 @@ lines_inside top count inputs bytes xs e = more_keeps (λ front. and_line_at top
   | inr last ↦ subst (λ (l : Line). (l.rhs0.literal / 2 ≤ top) × (l.rhs1.literal / 2 ≤ top)) last.1 (line_good top (inputs ++ lhs_of front) bs x is).1
 ]) count [] bytes xs (λ at line there. absurd cc) e
 
-inputs_good : (top count : ℕ) (bytes : List ℕ) (xs : List ℕ × List ℕ) → more_at (input_at top) count [] bytes ≡ Ok xs → AreGood top xs.0
+pub inputs_good : (top count : ℕ) (bytes : List ℕ) (xs : List ℕ × List ℕ) → more_at (input_at top) count [] bytes ≡ Ok xs → AreGood top xs.0
 inputs_good top count bytes xs e = more_keeps (input_at top) (AreGood top) (λ front bs x q is. good_more top x.0 front q (input_new top front bs x is)) count [] bytes xs (no_definitions top) e
 
-lines_are_good : (top count : ℕ) (inputs bytes : List ℕ) (xs : List Line × List ℕ) → AreGood top inputs → more_at (λ front. and_line_at top (inputs ++ lhs_of front)) count [] bytes ≡ Ok xs → AreGood top (inputs ++ lhs_of xs.0)
+pub lines_are_good : (top count : ℕ) (inputs bytes : List ℕ) (xs : List Line × List ℕ) → AreGood top inputs → more_at (λ front. and_line_at top (inputs ++ lhs_of front)) count [] bytes ≡ Ok xs → AreGood top (inputs ++ lhs_of xs.0)
 lines_are_good top count inputs bytes xs good e =
     more_keeps (λ front. and_line_at top (inputs ++ lhs_of front)) (λ front. AreGood top (inputs ++ lhs_of front))
     (λ front bs x q is. subst (AreGood top) (append_assoc inputs (lhs_of front) (x.0.lhs ∷ []) ∙ ap (λ (ls : List ℕ). inputs ++ ls) (sym (lhs_more front x.0)))
     (good_more top x.0.lhs (inputs ++ lhs_of front) q (line_good top (inputs ++ lhs_of front) bs x is).0))
     count [] bytes xs (subst (AreGood top) (sym (append-nil inputs)) good) e
 
-used_defined : (defined : List ℕ) (used : Used) → use_known_at defined used ≡ Ok tt → IsDefined defined used.literal
+pub used_defined : (defined : List ℕ) (used : Used) → use_known_at defined used ≡ Ok tt → IsDefined defined used.literal
 used_defined defined used e = go (used.literal / 2 == 0) (is_in defined (2 * (used.literal / 2))) refl refl e where
   go : (a b : Bool) → (used.literal / 2 == 0) ≡ a → is_in defined (2 * (used.literal / 2)) ≡ b → cond {A = Result (Unit {0}) Stop} (a || b) (Ok tt) (Err (record { left = used.left; why = why.Undefined used.literal })) ≡ Ok tt → IsDefined defined used.literal
   go true b zero_is in_is h = inl (eqb-true (used.literal / 2) 0 zero_is)
   go false true zero_is in_is h = inr (at_in defined (2 * (used.literal / 2)) in_is)
   go false false zero_is in_is h = absurd cc
 
-all_defined : (defined : List ℕ) (uses : List Used) → known_at defined uses ≡ Ok tt → (at : ℕ) (used : Used) → slice_get uses at ≡ Some used → IsDefined defined used.literal
+pub all_defined : (defined : List ℕ) (uses : List Used) → known_at defined uses ≡ Ok tt → (at : ℕ) (used : Used) → slice_get uses at ≡ Some used → IsDefined defined used.literal
 all_defined defined [] e at used is = absurd cc
 all_defined defined (u ∷ uses) e at used is = go at (bind_ok (use_known_at defined u) (λ _. known_at defined uses) tt e) is (all_defined defined uses) where
   go : (k : ℕ) → (x : Unit {0}) × (use_known_at defined u ≡ Ok x) × (known_at defined uses ≡ Ok tt) → slice_get (u ∷ uses) k ≡ Some used → (known_at defined uses ≡ Ok tt → (n : ℕ) (v : Used) → slice_get uses n ≡ Some v → IsDefined defined v.literal) → IsDefined defined used.literal

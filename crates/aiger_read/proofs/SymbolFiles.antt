@@ -261,15 +261,15 @@ read_end (b ∷ bs) e =
     let long : 0 < length (take (line_length (b ∷ bs)) (b ∷ bs)) = (let same = ap length line in omega arith) in
     inr (drop (line_length (b ∷ bs) + 1) (b ∷ bs), subst (λ (t : List ℕ). LineAt t (b ∷ bs) (drop (line_length (b ∷ bs) + 1) (b ∷ bs))) line (line_front (b ∷ bs) long))
 
-line_some : (names next : Entries × Entries) (line : List ℕ) → with_line names line ≡ Some next → 0 < length line
+pub line_some : (names next : Entries × Entries) (line : List ℕ) → with_line names line ≡ Some next → 0 < length line
 line_some names next [] e = absurd cc
 line_some names next (b ∷ bs) e = omega arith
 
-no_bytes : (bytes : List ℕ) → length bytes ≤ 0 → bytes ≡ []
+pub no_bytes : (bytes : List ℕ) → length bytes ≤ 0 → bytes ≡ []
 no_bytes [] le = refl
 no_bytes (b ∷ bs) le = absurd (omega arith)
 
-line_put : (names next : Entries × Entries) (bytes : List ℕ) → line_at names bytes ≡ given next → with_line names (take (line_length bytes) bytes) ≡ Some next
+pub line_put : (names next : Entries × Entries) (bytes : List ℕ) → line_at names bytes ≡ given next → with_line names (take (line_length bytes) bytes) ≡ Some next
 unfolding line_at
 line_put names next bytes e = go (with_line names (take (line_length bytes) bytes)) e where
   go : (o : Option (Entries × Entries)) → line_or bytes o ≡ given next → o ≡ Some next

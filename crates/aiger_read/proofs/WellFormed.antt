@@ -149,10 +149,10 @@ symbol_put entries more (Some s) e = go (slice_get entries s.0) e where
   go (Some (Some n)) h = absurd cc
   go (Some None) h = ap length (sym (ap (unwrap more) h)) ∙ length-set entries s.0 (Some s.1)
 
-abbrev Keeps : Entries × Entries → Entries × Entries → Type 0
+abbrev pub Keeps : Entries × Entries → Entries × Entries → Type 0
 Keeps before after = (length after.0 ≡ length before.0) × (length after.1 ≡ length before.1)
 
-line_put : (entries more : Entries × Entries) (line : List ℕ) → with_line entries line ≡ Some more → Keeps entries more
+pub line_put : (entries more : Entries × Entries) (line : List ℕ) → with_line entries line ≡ Some more → Keeps entries more
 line_put entries more [] e = absurd cc
 line_put entries more (kind ∷ bytes) e = go (kind == 105) (kind == 111) e where
   unwrap : Entries × Entries → Option (Entries × Entries) → Entries × Entries
@@ -197,7 +197,7 @@ symbols_ok (suc lines) entries after bytes e = go (ends_symbols bytes) e (λ mor
       let rest = more step.0 step.2 in
       (rest.0 ∙ one.0, rest.1 ∙ one.1)
 
-and_at_place : (inputs place : ℕ) (one : And) → (one.lhs ≡ 2 * (inputs + place + 1)) × (one.rhs0 < 2 * (inputs + place + 1)) × (one.rhs1 < 2 * (inputs + place + 1)) → IsAndAt inputs place one
+pub and_at_place : (inputs place : ℕ) (one : And) → (one.lhs ≡ 2 * (inputs + place + 1)) × (one.rhs0 < 2 * (inputs + place + 1)) × (one.rhs1 < 2 * (inputs + place + 1)) → IsAndAt inputs place one
 and_at_place inputs place one ok =
     let lhs = ok.0 in
     let first = ok.1 in

@@ -7,3 +7,4 @@ pub mod Lines
 pub mod Text
 pub mod Both
 pub mod Spelled
+pub mod Broken

@@ -3,6 +3,7 @@ use Rattle.std.specs.Prelude.{◌≡◌, ℕ, zero, suc, ◌+◌, ◌-◌, ◌*�
 use Rattle.std.specs.Char.{is_ascii_digit}
 use Rattle.aiger_read.specs.declared.fault.AigerWhy.{AigerWhy}
 use Rattle.aiger_read.specs.declared.fault.AigerWhy.TheVariants as why
+use Rattle.aiger_read.specs.declared.fault.AigerFault.{AigerFault}
 use Rattle.aiger_read.specs.declared.fault.Stop.{Stop}
 use Rattle.aiger_read.specs.declared.fault.ReadStop.{ReadStop}
 use Rattle.aiger_read.specs.declared.fault.ReadStop.TheVariants as stop
@@ -21,6 +22,11 @@ Fails (stop.At fault) read = read ≡ Err fault
 abbrev pub Gives : {X Y : Type 0} → (X → Y) → Result X ReadStop → Result Y Stop → Type 0
 Gives view (Ok x) read = read ≡ Ok (view x)
 Gives view (Err e) read = Fails e read
+
+-- the fault of a file of so many bytes in which a reader stopped, by the bytes that are left there
+abbrev pub IsFaultOf : ℕ → ReadStop → AigerFault → Type 0
+IsFaultOf count stop.Memory fault = fault.why ≡ why.Memory
+IsFaultOf count (stop.At at) fault = (fault.why ≡ at.why) × (fault.offset ≡ count - at.left)
 
 -- a fault where these bytes are left
 abbrev pub fault : AigerWhy → List ℕ → Stop

@@ -4,24 +4,13 @@ ghost use Rattle.std.specs.Prelude.{◌≡◌, ◌<◌, ◌^◌, length, IfOk, I
 ghost use Rattle.golden_aig.specs.Aig.{IsAig};
 ghost use Rattle.and_order.specs.Listing.{IsListing};
 ghost use Rattle.and_order.specs.Renaming.{IsRenaming, IsOrdered};
-ghost use Rattle.aiger_read.specs.declared.fault.AigerWhy.TheVariants as why;
 ghost use Rattle.aiger_read.specs.Text.{listing_of, ListsAs, ListsInOrder, IsOrderRefusal, IsListRefusal};
 
-use crate::fault::{AigerFault, AigerWhy, ReadStop};
+use crate::fault::{AigerFault, AigerWhy, ReadStop, Stop, fault_of};
 use crate::text::{Text, make_listing, take_text};
 use and_order::{OrderFault, renumber};
 use golden_aig::Aig;
 use std::alloc::Global;
-
-/// The answer for want of memory.
-fn no_memory() -> AigerFault
-    ensures { result ≡ record { offset = 0; why = why.Memory } }
-{
-    AigerFault {
-        offset: 0,
-        why: AigerWhy::Memory,
-    }
-}
 
 /// The graph that a text lists.
 fn order_text(alloc: Global, count: usize, text: Text) -> Result<Aig, AigerFault>
@@ -34,15 +23,15 @@ fn order_text(alloc: Global, count: usize, text: Text) -> Result<Aig, AigerFault
 {
     let left = text.left;
     let Ok(listing) = make_listing(alloc, text) else {
-        return Err(no_memory());
+        return Err(fault_of(count, ReadStop::Memory));
     };
     match renumber(alloc, listing) {
         Ok(aig) => Ok(aig),
-        Err(OrderFault::Memory) => Err(no_memory()),
-        Err(OrderFault::Cycle(ring)) => Err(AigerFault {
-            offset: count.saturating_sub(left) as u32,
-            why: AigerWhy::Cycle(ring),
-        }),
+        Err(OrderFault::Memory) => Err(fault_of(count, ReadStop::Memory)),
+        Err(OrderFault::Cycle(ring)) => {
+            let why = AigerWhy::Cycle(ring);
+            Err(fault_of(count, ReadStop::At(Stop { left, why })))
+        }
     }
 }
 
@@ -51,10 +40,8 @@ fn order_text(alloc: Global, count: usize, text: Text) -> Result<Aig, AigerFault
 ///
 /// # Errors
 ///
-/// The fault with the least place, which is answered with it; for what each says see [`AigerWhy`]. The first line is checked before the
-/// rest, from the left, and last of it the rule on M. `Undefined` and then `Cycle` are looked for only in a file without any other
-/// fault. `Memory` may come of any file.
-pub fn read_ascii(alloc: Global, bytes: &[u8]) -> Result<Aig, AigerFault>
+/// As for [`crate::read_aiger`].
+pub(crate) fn read_ascii(alloc: Global, bytes: &[u8]) -> Result<Aig, AigerFault>
     requires { length bytes.now < 2 ^ 32 }
     ensures lists { IfOk result (ListsAs bytes.now) }
     ensures order { IfOk result (ListsInOrder bytes.now) }
@@ -63,10 +50,6 @@ pub fn read_ascii(alloc: Global, bytes: &[u8]) -> Result<Aig, AigerFault>
 {
     match take_text(alloc, bytes) {
         Ok(text) => order_text(alloc, bytes.len(), text),
-        Err(ReadStop::Memory) => Err(no_memory()),
-        Err(ReadStop::At(stop)) => Err(AigerFault {
-            offset: bytes.len().saturating_sub(stop.left) as u32,
-            why: stop.why,
-        }),
+        Err(stop) => Err(fault_of(bytes.len(), stop)),
     }
 }

@@ -6,7 +6,7 @@ ghost use Rattle.aiger_read.specs.Reading.{Gives};
 ghost use Rattle.aiger_read.specs.Graph.{graph_at, ReadsAs, IsRefusal};
 
 use crate::ands::take_ands;
-use crate::fault::{AigerFault, AigerWhy, ReadStop};
+use crate::fault::{AigerFault, ReadStop, fault_of};
 use crate::header::{Form, take_header};
 use crate::outputs::take_outputs;
 use crate::symbols::take_symbols;
@@ -37,9 +37,8 @@ fn take_graph(alloc: Global, bytes: &[u8]) -> Result<Aig, ReadStop>
 ///
 /// # Errors
 ///
-/// The fault with the least place, which is answered with it; for what each says see [`AigerWhy`]. The first line is checked before the
-/// rest, from the left, and last of it the rule on M. `Memory` may come of any file.
-pub fn read_binary(alloc: Global, bytes: &[u8]) -> Result<Aig, AigerFault>
+/// As for [`crate::read_aiger`], but no `Undefined` and no `Cycle`.
+pub(crate) fn read_binary(alloc: Global, bytes: &[u8]) -> Result<Aig, AigerFault>
     requires { length bytes.now < 2 ^ 32 }
     ensures reads { IfOk result (λ aig. ReadsAs bytes.now aig) }
     ensures graph { IfOk result (λ aig. IsAig aig) }
@@ -47,13 +46,6 @@ pub fn read_binary(alloc: Global, bytes: &[u8]) -> Result<Aig, AigerFault>
 {
     match take_graph(alloc, bytes) {
         Ok(aig) => Ok(aig),
-        Err(ReadStop::Memory) => Err(AigerFault {
-            offset: 0,
-            why: AigerWhy::Memory,
-        }),
-        Err(ReadStop::At(stop)) => Err(AigerFault {
-            offset: bytes.len().saturating_sub(stop.left) as u32,
-            why: stop.why,
-        }),
+        Err(stop) => Err(fault_of(bytes.len(), stop)),
     }
 }

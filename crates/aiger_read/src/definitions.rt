@@ -16,17 +16,6 @@ pub(crate) struct Definitions {
     pub(crate) marks: Vec<bool>,
 }
 
-/// So many variables without a mark.
-fn make_marks(alloc: Global, count: u32) -> Result<Vec<bool>, NoMemory>
-    ensures { IfOk result (λ marks. marks.items ≡ replicate count false) }
-{
-    let mut marks = Vec::new(alloc);
-    for _ in 0..count {
-        marks.push(false)?;
-    }
-    Ok(marks)
-}
-
 impl Definitions {
     /// None.
     pub(crate) fn new(alloc: Global, top: u32) -> Result<Definitions, NoMemory>
@@ -36,7 +25,7 @@ impl Definitions {
     {
         Ok(Definitions {
             literals: List::new(alloc),
-            marks: make_marks(alloc, top + 1)?,
+            marks: vec![in alloc; false; top as usize + 1]?,
         })
     }
 

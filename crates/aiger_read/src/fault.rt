@@ -1,7 +1,8 @@
 //! Why a file is no graph.
 
-ghost use Rattle.std.specs.Prelude.{◌≡◌};
+ghost use Rattle.std.specs.Prelude.{◌≡◌, ◌<◌, ◌^◌};
 ghost use Rattle.aiger_read.specs.declared.fault.ReadStop.TheVariants.{Memory};
+ghost use Rattle.aiger_read.specs.Reading.{IsFaultOf};
 
 use rsfq_ids::list::{List, NoMemory};
 use std::alloc::{AllocError, AllocFailed};
@@ -22,7 +23,7 @@ pub enum AigerWhy {
     /// A number is wanted: digits, or groups of seven bits, of a value below 2^32.
     #[error("number")]
     Number,
-    /// A literal that the file has not.
+    /// A literal above `2M + 1`, or one that is to be defined and is odd or below 2.
     #[error("range {0}")]
     Range(u32),
     /// A literal that was defined before.
@@ -70,6 +71,23 @@ pub(crate) struct Stop {
 pub(crate) enum ReadStop {
     Memory,
     At(Stop),
+}
+
+/// The fault of a file of so many bytes in which a reader stopped.
+pub(crate) fn fault_of(count: usize, stop: ReadStop) -> AigerFault
+    requires { count < 2 ^ 32 }
+    ensures { IsFaultOf count stop result }
+{
+    match stop {
+        ReadStop::Memory => AigerFault {
+            offset: 0,
+            why: AigerWhy::Memory,
+        },
+        ReadStop::At(stop) => AigerFault {
+            offset: count.saturating_sub(stop.left) as u32,
+            why: stop.why,
+        },
+    }
 }
 
 impl From<NoMemory> for ReadStop {

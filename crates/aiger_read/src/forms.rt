@@ -17,9 +17,9 @@ use std::alloc::Global;
 ///
 /// # Errors
 ///
-/// The fault with the least place, which is answered with it; for what each says see [`crate::AigerWhy`]. The first line is checked
-/// before the rest, from the left, and last of it the rule on M. `Undefined` and then `Cycle` are looked for only in a file without
-/// any other fault. `Memory` may come of any file.
+/// The first fault, with its place; for what each says see [`crate::AigerWhy`]. The first line is checked before the rest, field by
+/// field, and last of it the rule on M. Behind it the fault with the least place counts. `Undefined` and then `Cycle` are looked for
+/// only in a file without any other fault. `Memory` may come of any file.
 pub fn read_aiger(alloc: Global, bytes: &[u8]) -> Result<Aig, AigerFault>
     requires { length bytes.now < 2 ^ 32 }
     ensures spelled { IfOk result (SpelledInOrder bytes.now) }

@@ -1,6 +1,7 @@
 //! What the readings of numbers and files mean, in the words of the format.
 
 ghost use Rattle.aiger_read.specs.Both.{FilesAreSpelled};
+ghost use Rattle.aiger_read.specs.Broken.{FaultsBreak};
 ghost use Rattle.aiger_read.specs.Spelled.{SpellOne};
 ghost use Rattle.aiger_read.specs.Spelling.{NumbersAreRead, DifferencesAreRead, AndsAreRead};
 
@@ -32,3 +33,10 @@ pub fn one_graph_is_spelled()
 {
     one_graph_is_ordered();
 }
+
+/// What [`crate::read_aiger`] answers as a fault, want of memory apart, is the place where the file breaks, and why: up to there it stands
+/// as a writer writes it, and there a piece stands that is none. An undefined literal or a ring is one in a file whose lines are all right,
+/// and in which all that is used before, or all that is used, is defined.
+pub fn faults_break()
+    ensures { FaultsBreak }
+{}

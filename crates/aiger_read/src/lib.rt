@@ -1,6 +1,6 @@
 //! Golden circuits read from AIGER files (Biere, Heljanko, Wieringa: AIGER 1.9 And Beyond, 2011).
 //!
-//! [`read_aiger`] reads both forms, with their symbols: the graph, or why there is none, with the least place that shows it.
+//! [`read_aiger`] reads both forms, with their symbols: the graph, or the first fault with its place.
 #![tactic(auto)]
 
 mod ands;
@@ -17,12 +17,11 @@ mod outputs;
 mod symbols;
 mod text;
 
-pub use ascii::read_ascii;
-pub use binary::read_binary;
 pub use fault::{AigerFault, AigerWhy};
 pub use forms::read_aiger;
 pub use laws::{
-    ands_are_read, differences_are_read, files_are_spelled, numbers_are_read, one_graph_is_spelled,
+    ands_are_read, differences_are_read, faults_break, files_are_spelled, numbers_are_read,
+    one_graph_is_spelled,
 };
 
 #[cfg(test)]

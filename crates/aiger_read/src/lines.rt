@@ -7,7 +7,7 @@ ghost use Rattle.aiger_read.specs.Lines.{AreMarks, lhs_of, start_at, use_at, gap
 use crate::definitions::{Definitions, take_definition};
 use crate::fault::{AigerWhy, ReadStop, Stop};
 use crate::fields::take_number;
-use crate::outputs::end_line;
+use crate::outputs::{end_line, take_literal};
 use rsfq_ids::list::List;
 use std::alloc::Global;
 
@@ -92,14 +92,15 @@ fn take_input<'a>(
 }
 
 /// The line of an output.
-#[tactic(auto, unfolding(crate::specs::Lines::output_at))]
 fn take_output(top: u32, bytes: &[u8]) -> Result<(Used, &[u8]), ReadStop>
     requires { top < 1000001 }
     ensures { Gives (λ x. (x.0, x.1.now)) result (output_at top bytes.now) }
 {
-    let line = start_line(bytes)?;
-    let (used, rest) = take_use(top, line)?;
-    let behind = end_line(rest)?;
+    let (literal, behind) = take_literal(2 * top + 1, bytes)?;
+    let used = Used {
+        literal,
+        left: bytes.len(),
+    };
     Ok((used, behind))
 }
 

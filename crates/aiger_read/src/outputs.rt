@@ -24,7 +24,7 @@ pub(crate) fn end_line(bytes: &[u8]) -> Result<&[u8], ReadStop>
 
 /// A line with one literal, at most `top`.
 #[tactic(auto, unfolding(crate::specs::Reading::literal_at))]
-fn take_literal(top: u32, bytes: &[u8]) -> Result<(u32, &[u8]), ReadStop>
+pub(crate) fn take_literal(top: u32, bytes: &[u8]) -> Result<(u32, &[u8]), ReadStop>
     ensures { Gives (λ x. (x.0, x.1.now)) result (literal_at top bytes.now) }
 {
     if bytes.is_empty() {

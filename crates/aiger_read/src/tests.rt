@@ -1,8 +1,10 @@
 //! Files with known graphs and faults. The wanted answers are written by hand.
 
+use crate::ascii::read_ascii;
+use crate::binary::read_binary;
 use crate::{
-    AigerWhy, ands_are_read, differences_are_read, files_are_spelled, numbers_are_read,
-    one_graph_is_spelled, read_aiger, read_ascii, read_binary,
+    AigerWhy, ands_are_read, differences_are_read, faults_break, files_are_spelled,
+    numbers_are_read, one_graph_is_spelled, read_aiger,
 };
 use golden_aig::{eval, golden_values, values_are_determined};
 use std::alloc::{AllocError, Global};
@@ -200,12 +202,66 @@ fn graphs_are_read_in_the_order_of_use(rt: HostRuntime) -> Result<(), Fail> {
 }
 
 #[test]
+fn differences_have_five_groups(rt: HostRuntime) -> Result<(), Fail> {
+    let cases: [(&[u8], &str); 6] = [
+        (b"aig 2 1 0 0 1\n\xff\xff\xff\xff\x10\x00", "14 number"),
+        (b"aig 2 1 0 0 1\n\xff\xff\xff\xff\x0f\x00", "14 order"),
+        (b"aig 2 1 0 0 1\n\x80\x80\x80\x80\x80", "14 number"),
+        (b"aig 2 1 0 0 1\n\x80\x80\x80\x80", "18 truncated"),
+        (b"aig 2 1 0 0 1\n\x80", "15 truncated"),
+        (
+            b"aig 2 1 0 0 1\n\x82\x00\x80\x00",
+            "1 [And { lhs: 4, rhs0: 2, rhs1: 2 }] [] [None] []",
+        ),
+    ];
+    for (bytes, wanted) in cases {
+        let text = describe(rt.alloc(), bytes)?;
+        assert_eq!(rt; text.as_str(), wanted);
+    }
+    Ok(())
+}
+
+#[test]
+fn a_name_is_the_rest_of_its_line(rt: HostRuntime) -> Result<(), Fail> {
+    let cases: [(&[u8], &str); 4] = [
+        (b"aig 1 1 0 0 0\nl0 a\n", "14 symbol"),
+        (
+            b"aig 1 1 0 0 0\ni00 a\n",
+            "1 [] [] [Some(Name { text: \"a\" })] []",
+        ),
+        (
+            b"aig 1 1 0 0 0\ni0  a b",
+            "1 [] [] [Some(Name { text: \" a b\" })] []",
+        ),
+        (
+            b"aag 1 1 0 0 0\n2\ni0 a\r\n",
+            "1 [] [] [Some(Name { text: \"a\\r\" })] []",
+        ),
+    ];
+    for (bytes, wanted) in cases {
+        let text = describe(rt.alloc(), bytes)?;
+        assert_eq!(rt; text.as_str(), wanted);
+    }
+    Ok(())
+}
+
+#[test]
+fn causes_come_in_their_order(rt: HostRuntime) -> Result<(), Fail> {
+    let text = describe(rt.alloc(), b"aag 1 5 1 0 0\n")?;
+    assert_eq!(rt; text.as_str(), "8 latches");
+    let text = describe(rt.alloc(), b"aag 1 0 0 1 0\n2\nx\n")?;
+    assert_eq!(rt; text.as_str(), "16 symbol");
+    Ok(())
+}
+
+#[test]
 fn each_form_has_its_reader(rt: HostRuntime) -> Result<(), Fail> {
     numbers_are_read();
     differences_are_read();
     ands_are_read();
     files_are_spelled();
     one_graph_is_spelled();
+    faults_break();
     assert!(rt; read_binary(rt.alloc(), ONE_AND).is_ok());
     assert!(rt; read_ascii(rt.alloc(), ONE_AND).is_err());
     assert!(rt; read_ascii(rt.alloc(), b"aag 1 1 0 1 0\n2\n2\n").is_ok());
@@ -232,7 +288,7 @@ fn graphs_are_read_with_their_symbols(rt: HostRuntime) -> Result<(), Fail> {
 
 #[test]
 fn a_graph_that_is_read_has_values(rt: HostRuntime) -> Result<(), Fail> {
-    let aig = match read_binary(rt.alloc(), ONE_AND) {
+    let aig = match read_aiger(rt.alloc(), ONE_AND) {
         Ok(aig) => aig,
         Err(_) => panic!(rt; "a graph"),
     };

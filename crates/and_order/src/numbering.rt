@@ -1,6 +1,6 @@
 //! The new numbers of the file's variables.
 
-ghost use Rattle.std.specs.Prelude.{◌≡◌, ◌<◌, ◌≤◌, ◌/◌, ◌++◌, [], ◌∷◌, length, replicate, None, true, false, IfOk, OnOk};
+ghost use Rattle.std.specs.Prelude.{◌≡◌, ◌<◌, ◌≤◌, ◌/◌, ◌++◌, [], ◌∷◌, length, true, false, IfOk, OnOk};
 ghost use Rattle.and_order.specs.Numbers.{Known, IsNumbering, Numbers, file_literal};
 
 use rsfq_ids::list::NoMemory;
@@ -22,9 +22,10 @@ impl Numbering {
         ensures numbers { IfOk result (Numbers top) }
         ensures names { IfOk result (λ numbering. numbering.names.items ≡ 0 ∷ []) }
     {
+        let numbers = vec![in alloc; None; top as usize + 1]?;
         let mut numbering = Numbering {
             names: Vec::new(alloc),
-            numbers: make_blank(alloc, top + 1)?,
+            numbers,
         };
         numbering.give(top, 0)?;
         Ok(numbering)
@@ -70,15 +71,4 @@ impl Numbering {
             None => unreachable!(),
         }
     }
-}
-
-/// So many variables without a number.
-fn make_blank(alloc: Global, count: u32) -> Result<Vec<Option<u32>>, NoMemory>
-    ensures { IfOk result (λ numbers. numbers.items ≡ replicate count None) }
-{
-    let mut numbers = Vec::new(alloc);
-    for _ in 0..count {
-        numbers.push(None)?;
-    }
-    Ok(numbers)
 }

@@ -1,6 +1,6 @@
 //! ANDs in a ring.
 
-ghost use Rattle.std.specs.Prelude.{◌≡◌, ◌<◌, ◌≤◌, ◌/◌, ◌^◌, ◌⊎◌, ◌++◌, ◌∷◌, [], ℕ, true, false, None, length, drop, replicate, slice_get, slice_index, Some, IfOk, IfSome, IfNone, OnOk};
+ghost use Rattle.std.specs.Prelude.{◌≡◌, ◌<◌, ◌≤◌, ◌/◌, ◌^◌, ◌⊎◌, ◌++◌, ◌∷◌, [], ℕ, true, false, length, drop, slice_get, slice_index, Some, IfOk, IfSome, IfNone, OnOk};
 ghost use Rattle.std.specs.List.{All};
 ghost use Rattle.golden_aig.specs.declared.graph.And.{And};
 ghost use Rattle.and_order.specs.Numbers.{Known, HoldsOnce, Numbers};
@@ -28,24 +28,13 @@ pub(crate) fn find_left(top: u32, numbering: &Numbering, lines: &[And]) -> Optio
     None
 }
 
-/// So many zeros.
-fn make_zeros(alloc: Global, count: u32) -> Result<Vec<usize>, NoMemory>
-    ensures { IfOk result (λ zeros. length zeros.items ≡ count) }
-{
-    let mut zeros = Vec::new(alloc);
-    for _ in 0..count {
-        zeros.push(0)?;
-    }
-    Ok(zeros)
-}
-
 /// The line that defines each variable, and 0 for a variable that none defines.
 fn tabulate_definers(alloc: Global, top: u32, lines: &[And]) -> Result<Vec<usize>, NoMemory>
     requires small { top < 1000001 }
     requires lines { AreLines top lines.now }
     ensures { IfOk result (λ definers. AreDefiners top (length lines.now) lines.now definers.items) }
 {
-    let mut definers = make_zeros(alloc, top + 1)?;
+    let mut definers = vec![in alloc; 0; top as usize + 1]?;
     for (place, line) in lines.iter().enumerate() {
         definers[(line.lhs / 2) as usize] = place;
     }
@@ -70,17 +59,6 @@ fn step(top: u32, numbering: &Numbering, lines: &[And], definers: &[usize], plac
         line.rhs0
     };
     definers[(operand / 2) as usize]
-}
-
-/// So many lines that were not met.
-fn make_unmet(alloc: Global, count: usize) -> Result<Vec<Option<usize>>, NoMemory>
-    ensures { IfOk result (λ met. met.items ≡ replicate count None) }
-{
-    let mut met = Vec::new(alloc);
-    for _ in 0..count {
-        met.push(None)?;
-    }
-    Ok(met)
 }
 
 /// The place of a least number.
@@ -134,7 +112,7 @@ pub(crate) fn find_ring(
     ensures { IfOk result (IsRing lines.now) }
 {
     let definers = tabulate_definers(alloc, top, lines)?;
-    let mut met = make_unmet(alloc, lines.len())?;
+    let mut met = vec![in alloc; None; lines.len()]?;
     let mut path = Vec::new(alloc);
     let mut place = start;
     'walk: loop {

@@ -1,11 +1,14 @@
 -- Tables of texts, texts that are there once, and lists that are each other in another order.
-use Rattle.std.proofs.Common.{◌≡◌, ◌≢◌, ℕ, zero, suc, ◌+◌, ◌<◌, ◌≤◌, Bool, true, false, refl, sym, ◌∙◌, ap, ap₂, subst, arith, List, [], ◌∷◌, ◌++◌, length, take, drop, drop-cons, get_or, Option, None, Some, inl, inr}
-use Rattle.std.specs.Prelude.{nat_lt, is_some}
-use Rattle.std.specs.List.{All, AllPairs, Contains, list_any, position_or_len, remove}
+use Rattle.std.proofs.Common.{◌≡◌, ◌≢◌, ℕ, zero, suc, ◌+◌, ◌<◌, ◌≤◌, Bool, true, false, refl, sym, ◌∙◌, ap, ap₂, subst, arith, cond, not, length-append, List, [], ◌∷◌, ◌++◌, length, take, drop, drop-cons, get_or, Option, None, Some, inl, inr}
+use Rattle.std.specs.Prelude.{nat_lt, is_some, position, if◌then◌else◌}
+use Rattle.std.specs.List.{All, AllPairs, Contains, position_or_len, remove}
 use Rattle.std.specs.List.Sorted.{IsPermutation}
 use Rattle.std.specs.Str.{bytes_eq}
-use Rattle.std.proofs.lemmas.List.{take-append-drop, length-map, length-take-le, get_or_default, get_or-take, get_or-map, take_more, map-append}
-use Rattle.std.proofs.lemmas.Bool.{ltb-false}
+use Rattle.std.proofs.lemmas.List.{take-append-drop, length-map, length-take-le, get_or_default, get_or-map, take_more, map-append}
+use Rattle.std.proofs.Math.Dec.{eqb}
+use Rattle.std.proofs.lemmas.Bool.{cases_lt, ltb-false, lt-ltb, le-ltb, eq-eqb, ne_eqb}
+use Rattle.std.proofs.lemmas.List.Folds.{position_or_len_push}
+use Rattle.std.proofs.lemmas.List.Sums.{prefix_len-le-length}
 use Rattle.std.proofs.lemmas.List.Quantifiers.{position-Some, all_pairs_push}
 use Rattle.std.proofs.lemmas.List.Elements.{All-tail, All-head}
 use Rattle.std.proofs.lemmas.List.Sorted.{IsPermutation-refl, IsPermutation-remove, IsPermutation-cons, IsPermutation-trans, Contains-permutation, length_permutation}
@@ -16,36 +19,23 @@ use Rattle.rsfq_ids.specs.declared.circuit.Flat.{Flat}
 use Rattle.golden_aig.specs.Matched.{name_of, names_of, symbols_of, IsMatched, IsMixed, Refuses, IsRefusal, Repeats, LacksPort}
 use Rattle.golden_aig.specs.declared.pairing.PortFault.{PortFault}
 use Rattle.golden_aig.specs.declared.pairing.PortFault.TheVariants as fault
-use Rattle.golden_aig.specs.Names.{number_of, with_name}
-use Rattle.golden_aig.proofs.Places.{same_bytes}
+use Rattle.golden_aig.specs.FirstPlaces.{place_in, HoldsPlaces}
+use Rattle.first_names.specs.declared.places.FirstNames.{FirstNames}
+use Rattle.first_names.specs.Places.{place_of, first_place, Sees}
 
 pub bytes_same : (s t : List ℕ) → bytes_eq s t ≡ true → s ≡ t
 bytes_same s t e = (bytes_eq-Decides s t).0 e
 
-any_Contains : (name : List ℕ) (names : List (List ℕ)) → list_any (bytes_eq name) names ≡ true → Contains names name
-any_Contains name [] e = cc
-any_Contains name (x ∷ xs) e = go (bytes_eq name x) refl (any_Contains name xs) where
-  go : (b : Bool) → bytes_eq name x ≡ b → (list_any (bytes_eq name) xs ≡ true → Contains xs name) → Contains (x ∷ xs) name
-  go true is more = (0, omega arith, sym (bytes_same name x is))
-  go false is more =
-      let rest : list_any (bytes_eq name) xs ≡ true = rw is at e in
-      let there : Contains xs name = more rest in
-      (suc there.0, (let lt = there.1 in omega arith), there.2)
+same_bytes : (t : List ℕ) → bytes_eq t t ≡ true
+same_bytes t = (bytes_eq-Decides t t).1 refl
 
--- a text that is not there is put in at the end
-pub with_new : (names : List (List ℕ)) (name : List ℕ) → ¬ Contains names name → with_name names name ≡ names ++ name ∷ []
-with_new names name new = go (list_any (bytes_eq name) names) refl where
-  go : (b : Bool) → list_any (bytes_eq name) names ≡ b → with_name names name ≡ names ++ name ∷ []
-  go true is = absurd (new (any_Contains name names is))
-  go false is = rw is refl
-
-pub number_there : (names : List (List ℕ)) (name : List ℕ) (k : ℕ) → number_of names name ≡ Some k → (k < length names) × (get_or names k [] ≡ name)
-number_there names name k is =
+pub place_there : (names : List (List ℕ)) (name : List ℕ) (k : ℕ) → place_in names name ≡ Some k → (k < length names) × (get_or names k [] ≡ name)
+place_there names name k is =
     let at = position-Some (bytes_eq name) names k [] is in
     (at.0, sym (bytes_same name (get_or names k []) at.1))
 
-pub number_contains : (names : List (List ℕ)) (name : List ℕ) (k : ℕ) → number_of names name ≡ Some k → Contains names name
-number_contains names name k is =
+pub place_contains : (names : List (List ℕ)) (name : List ℕ) (k : ℕ) → place_in names name ≡ Some k → Contains names name
+place_contains names name k is =
     let at = position-Some (bytes_eq name) names k name is in
     (k, at.0, sym (bytes_same name (get_or names k name) at.1))
 
@@ -64,8 +54,8 @@ position-none name (x ∷ xs) le (suc k, lt, at) = go (bytes_eq name x) refl (po
       let shorter : length (x ∷ xs) ≤ 1 + position_or_len (bytes_eq name) xs = rw is at le in
       more (omega arith) (k, omega arith, at)
 
-pub number_absent : (names : List (List ℕ)) (name : List ℕ) → number_of names name ≡ None → ¬ Contains names name
-number_absent names name is = position-none name names (go (nat_lt (position_or_len (bytes_eq name) names) (length names)) refl) where
+pub place_absent : (names : List (List ℕ)) (name : List ℕ) → place_in names name ≡ None → ¬ Contains names name
+place_absent names name is = position-none name names (go (nat_lt (position_or_len (bytes_eq name) names) (length names)) refl) where
   go : (b : Bool) → nat_lt (position_or_len (bytes_eq name) names) (length names) ≡ b → length names ≤ position_or_len (bytes_eq name) names
   go true lt =
       let bad : Some (position_or_len (bytes_eq name) names) ≡ None = rw lt at is in
@@ -75,12 +65,6 @@ number_absent names name is = position-none name names (go (nat_lt (position_or_
 -- one more that is new
 pub distinct_push : (xs : List (List ℕ)) (x : List ℕ) → AreDistinct xs → ¬ Contains xs x → AreDistinct (xs ++ x ∷ [])
 distinct_push xs x all new = all_pairs_push (λ (a b : List ℕ). a ≢ b) xs x all (λ k d lt same. new (k, lt, get_or_default xs k x d lt ∙ same))
-
--- those before a place have not the text of that place
-pub distinct_before : (xs : List (List ℕ)) (i : ℕ) (d : List ℕ) → AreDistinct xs → i < length xs → ¬ Contains (take i xs) (get_or xs i d)
-distinct_before xs i d all lt (k, below, at) =
-    let len : length (take i xs) ≡ i = length-take-le i xs (omega arith) in
-    all k i d (omega arith) lt (get_or_default xs k d (get_or xs i d) (omega arith) ∙ (sym (get_or-take i xs k (get_or xs i d) (omega arith)) ∙ at))
 
 -- distinct items of a list, as many as it has, are that list in another order
 pub permutation_from_distinct : (xs ys : List ℕ) → length xs ≡ length ys → AllPairs (λ a b. a ≢ b) xs → All (Contains ys) xs → IsPermutation ys xs
@@ -117,42 +101,79 @@ pub lacks_at : (flat : Flat) (ports : List PortId) (texts : List (List ℕ)) (i 
     → ¬ Contains (names_of flat ports) (get_or texts i []) → LacksPort flat ports texts (get_or texts i [])
 lacks_at flat ports texts i lt known none = record { before = take i texts; after = drop (suc i) texts; parts = parts_at texts i lt; earlier = known; none = none }
 
--- one more text of a list, which is not among those before it
-pub with_more : (texts table new : List (List ℕ)) (name : List ℕ) (i : ℕ) → i < length texts → ¬ Contains (take i texts) name → table ≡ take i texts → name ≡ get_or texts i []
-    → new ≡ with_name table name → new ≡ take (i + 1) texts
-with_more texts table new name i lt absent so_far name_is new_is =
-    new_is ∙ (ap (λ t. with_name t name) so_far ∙ (with_new (take i texts) name absent ∙ (ap (λ t. take i texts ++ t ∷ []) name_is ∙ sym (take_more texts i [] lt))))
+-- the first place that passes, after one more item
+place_pushed : {X : Type 0} (test : X → Bool) (xs : List X) (x : X) (here : Bool) → test x ≡ here
+    → cond here (first_place (position test xs) (length xs)) (position test xs) ≡ position test (xs ++ x ∷ [])
+place_pushed test xs x here is = rw (position_or_len_push test xs x, is, length-append xs (x ∷ [])) (elim (cases_lt (position_or_len test xs) (length xs)) [
+  | inl less ↦ early (position_or_len test xs) (length xs) here less
+  | inr none ↦ late (position_or_len test xs) (length xs) here (let end = prefix_len-le-length (λ y. not (test y)) xs in omega arith)
+]) where
+  early : (n l : ℕ) (b : Bool) → n < l
+      → cond b (first_place (if nat_lt n l then Some n else None) l) (if nat_lt n l then Some n else None)
+      ≡ (if nat_lt (cond (eqb n l) (l + cond b 0 1) n) (l + 1) then Some (cond (eqb n l) (l + cond b 0 1) n) else None)
+  early n l true less = rw (ne_eqb n l (omega arith), lt-ltb n l less, lt-ltb n (l + 1) (omega arith)) refl
+  early n l false less = rw (ne_eqb n l (omega arith), lt-ltb n l less, lt-ltb n (l + 1) (omega arith)) refl
 
-pub some_contains : (names : List (List ℕ)) (name : List ℕ) → is_some (number_of names name) ≡ true → Contains names name
-some_contains names name e = go (number_of names name) refl where
-  go : (o : Option ℕ) → number_of names name ≡ o → Contains names name
+  late : (n l : ℕ) (b : Bool) → n ≡ l
+      → cond b (first_place (if nat_lt n l then Some n else None) l) (if nat_lt n l then Some n else None)
+      ≡ (if nat_lt (cond (eqb n l) (l + cond b 0 1) n) (l + 1) then Some (cond (eqb n l) (l + cond b 0 1) n) else None)
+  late n l true same = rw (eq-eqb n l same, le-ltb n l (omega arith), lt-ltb (l + 0) (l + 1) (omega arith)) (ap Some (omega arith))
+  late n l false same = rw (eq-eqb n l same, le-ltb n l (omega arith), le-ltb (l + 1) (l + 1) (omega arith)) refl
+
+-- one more text of a list is seen at its place
+pub holds_more : (texts : List (List ℕ)) (old new : FirstNames) (name : List ℕ) (i : ℕ) → i < length texts → name ≡ get_or texts i [] → HoldsPlaces (take i texts) old
+    → Sees old new name i → HoldsPlaces (take (i + 1) texts) new
+holds_more texts old new name i lt name_is holds sees other =
+    sees other ∙ (ap₂ (λ (one two : Option ℕ). if bytes_eq name other then first_place one i else two) (holds name) (holds other)
+    ∙ (go (bytes_eq name other) refl ∙ ap (λ (t : List (List ℕ)). place_in t other) (ap (λ n. take i texts ++ n ∷ []) name_is ∙ sym (take_more texts i [] lt))))
+  where
+    len : length (take i texts) ≡ i
+    len = length-take-le i texts (omega arith)
+
+    go : (b : Bool) → bytes_eq name other ≡ b → cond b (first_place (place_in (take i texts) name) i) (place_in (take i texts) other) ≡ place_in (take i texts ++ name ∷ []) other
+    go true is =
+        let same : name ≡ other = bytes_same name other is in
+        subst (λ (n : List ℕ). first_place (place_in (take i texts) n) i ≡ place_in (take i texts ++ name ∷ []) other) (sym same)
+        (ap (first_place (place_in (take i texts) other)) (sym len) ∙ place_pushed (bytes_eq other) (take i texts) name true (ap (bytes_eq other) same ∙ same_bytes other))
+    go false is = place_pushed (bytes_eq other) (take i texts) name false (apart (bytes_eq other name) refl) where
+      apart : (b : Bool) → bytes_eq other name ≡ b → bytes_eq other name ≡ false
+      apart false other_text = other_text
+      apart true back_is =
+          let back : other ≡ name = bytes_same other name back_is in
+          let bad : bytes_eq name other ≡ true = ap (bytes_eq name) back ∙ same_bytes name in
+          let both : true ≡ false = sym bad ∙ is in
+          cc
+
+pub some_contains : (names : List (List ℕ)) (name : List ℕ) → is_some (place_in names name) ≡ true → Contains names name
+some_contains names name e = go (place_in names name) refl where
+  go : (o : Option ℕ) → place_in names name ≡ o → Contains names name
   go None is =
       let bad : false ≡ true = rw is at e in
       absurd cc
-  go (Some k) is = number_contains names name k is
+  go (Some k) is = place_contains names name k is
 
-pub none_lacks : (names : List (List ℕ)) (name : List ℕ) → is_some (number_of names name) ≡ false → ¬ Contains names name
-none_lacks names name e = go (number_of names name) refl where
-  go : (o : Option ℕ) → number_of names name ≡ o → ¬ Contains names name
-  go None is = number_absent names name is
+pub none_lacks : (names : List (List ℕ)) (name : List ℕ) → is_some (place_in names name) ≡ false → ¬ Contains names name
+none_lacks names name e = go (place_in names name) refl where
+  go : (o : Option ℕ) → place_in names name ≡ o → ¬ Contains names name
+  go None is = place_absent names name is
   go (Some k) is =
       let bad : true ≡ false = rw is at e in
       absurd cc
 
 -- one more symbol's port
 pub found_more : (flat : Flat) (ports matched new : List PortId) (texts : List (List ℕ)) (i place : ℕ) (port : PortId) → i < length texts → names_of flat matched ≡ take i texts
-    → new ≡ matched ++ port ∷ [] → port ≡ get_or ports place port → number_of (names_of flat ports) (get_or texts i []) ≡ Some place → names_of flat new ≡ take (i + 1) texts
-found_more flat ports matched new texts i place port lt so_far new_is port_is number_is =
-    let there = number_there (names_of flat ports) (get_or texts i []) place number_is in
+    → new ≡ matched ++ port ∷ [] → port ≡ get_or ports place port → place_in (names_of flat ports) (get_or texts i []) ≡ Some place → names_of flat new ≡ take (i + 1) texts
+found_more flat ports matched new texts i place port lt so_far new_is port_is place_is =
+    let there = place_there (names_of flat ports) (get_or texts i []) place place_is in
     let few : length (names_of flat ports) ≡ length ports = length-map ports (name_of flat) in
     let inside = there.0 in
     let here : get_or (names_of flat ports) place [] ≡ name_of flat (get_or ports place port) = get_or-map (name_of flat) ports place port [] (omega arith) in
     let name : name_of flat port ≡ get_or texts i [] = ap (name_of flat) port_is ∙ (sym here ∙ there.1) in
     ap (names_of flat) new_is ∙ (map-append (name_of flat) matched (port ∷ []) ∙ (ap₂ (λ xs x. xs ++ x ∷ []) so_far name ∙ sym (take_more texts i [] lt)))
 
-pub port_found : (flat : Flat) (ports : List PortId) (name : List ℕ) (place : ℕ) (port : PortId) → port ≡ get_or ports place port → number_of (names_of flat ports) name ≡ Some place → Contains ports port
-port_found flat ports name place port port_is number_is =
-    let there = number_there (names_of flat ports) name place number_is in
+pub port_found : (flat : Flat) (ports : List PortId) (name : List ℕ) (place : ℕ) (port : PortId) → port ≡ get_or ports place port → place_in (names_of flat ports) name ≡ Some place → Contains ports port
+port_found flat ports name place port port_is place_is =
+    let there = place_there (names_of flat ports) name place place_is in
     let few : length (names_of flat ports) ≡ length ports = length-map ports (name_of flat) in
     let inside = there.0 in
     (place, omega arith, sym port_is)
@@ -168,15 +189,15 @@ names_known flat ports matched all k d lt =
     (there.0, omega arith, get_or-map (name_of flat) ports there.0 (get_or matched k 0) (get_or (names_of flat matched) k d) (omega arith) ∙ (ap (name_of flat) there.2 ∙ sym here))
 
 pub lacks_err : (flat : Flat) (ports matched : List PortId) (texts : List (List ℕ)) (i : ℕ) (name : List ℕ) → i < length texts → name ≡ get_or texts i [] → names_of flat matched ≡ take i texts
-    → All (Contains ports) matched → number_of (names_of flat ports) name ≡ None → LacksPort flat ports texts name
+    → All (Contains ports) matched → place_in (names_of flat ports) name ≡ None → LacksPort flat ports texts name
 lacks_err flat ports matched texts i name lt name_is so_far all none =
-    let P : List ℕ → Type 0 = λ n. number_of (names_of flat ports) n ≡ None → LacksPort flat ports texts n in
-    subst P (sym name_is) (λ no. lacks_at flat ports texts i lt (subst (All (Contains (names_of flat ports))) so_far (names_known flat ports matched all)) (number_absent (names_of flat ports) (get_or texts i []) no)) none
+    let P : List ℕ → Type 0 = λ n. place_in (names_of flat ports) n ≡ None → LacksPort flat ports texts n in
+    subst P (sym name_is) (λ no. lacks_at flat ports texts i lt (subst (All (Contains (names_of flat ports))) so_far (names_known flat ports matched all)) (place_absent (names_of flat ports) (get_or texts i []) no)) none
 
-pub repeats_err : (texts table : List (List ℕ)) (i : ℕ) (name : List ℕ) → i < length texts → name ≡ get_or texts i [] → table ≡ take i texts → AreDistinct (take i texts)
-    → is_some (number_of table name) ≡ true → Repeats texts name
-repeats_err texts table i name lt name_is so_far apart some =
-    let here : is_some (number_of (take i texts) (get_or texts i [])) ≡ true = ap₂ (λ t n. is_some (number_of t n)) (sym so_far) (sym name_is) ∙ some in
+pub repeats_err : (texts : List (List ℕ)) (table : FirstNames) (i : ℕ) (name : List ℕ) → i < length texts → name ≡ get_or texts i [] → HoldsPlaces (take i texts) table → AreDistinct (take i texts)
+    → is_some (place_of table name) ≡ true → Repeats texts name
+repeats_err texts table i name lt name_is holds apart some =
+    let here : is_some (place_in (take i texts) (get_or texts i [])) ≡ true = ap (λ n. is_some (place_in (take i texts) n)) (sym name_is) ∙ (ap is_some (sym (holds name)) ∙ some) in
     subst (Repeats texts) (sym name_is) (repeats_at texts i lt apart (some_contains (take i texts) (get_or texts i []) here))
 
 -- ports of a side whose names are texts that are there once, as many as the side has, are that side in another order

@@ -6,7 +6,9 @@ use Rattle.rsfq_ids.specs.declared.circuit.Bench.{Bench}
 use Rattle.rsfq_ids.specs.declared.circuit.Reader.TheVariants as reader
 use Rattle.rsfq_ids.specs.Circuit.{Reads}
 use Rattle.rsfq_ids.specs.Bench.{IsWord, bit_of}
+use Rattle.rsfq_ids.specs.declared.offence.Offence.{Offence}
 use Rattle.rsfq_ids.specs.Value.{HasValue}
+use Rattle.rsfq_ids.specs.Offence.{MeetsNegation}
 use Rattle.rsfq_ids.specs.Design.{Design}
 use Rattle.golden_aig.specs.declared.graph.Aig.{Aig}
 use Rattle.golden_aig.specs.declared.pairing.Match.{Match}
@@ -27,3 +29,7 @@ pub record Differs (design : Design) (aig : Aig) (matched : Match) (output : Por
   pub circuit : (net : NetId) × Reads design.flat (reader.Port output) net × HasValue design word net netlist
   pub golden_value : HasGoldenValue design.bench aig matched word output value
   pub differ : netlist ≢ value
+
+-- an offence of a design that has a golden circuit meets the negation of its rule, that of `Differ` included
+abbrev pub Negates : Design → Aig → Match → Offence → Type 0
+Negates design aig matched offence = MeetsNegation design (Differs design aig matched) offence

@@ -1,6 +1,6 @@
 pub mod Aig
 pub mod Golden
 pub mod Table
-pub mod Names
+pub mod FirstPlaces
 pub mod Matched
 pub mod Differ

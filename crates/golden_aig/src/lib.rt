@@ -8,7 +8,6 @@ mod evaluation;
 mod graph;
 mod laws;
 mod matching;
-mod names;
 mod pairing;
 
 pub use evaluation::eval;

@@ -4,12 +4,13 @@ ghost use Rattle.std.specs.Prelude.{◌≡◌, ◌≢◌, ℕ, ◌+◌, ◌-◌,
 ghost use Rattle.std.specs.List.{All, Contains};
 ghost use Rattle.rsfq_ids.specs.WellFormed.{AreDistinct, IsBench};
 ghost use Rattle.golden_aig.specs.Aig.{IsAig};
+ghost use Rattle.golden_aig.specs.FirstPlaces.{HoldsPlaces};
 ghost use Rattle.golden_aig.specs.Matched.{data_inputs, outputs_of, name_of, names_of, symbols_of, IsMatched, IsMatch, LacksPort, Repeats, Refuses, HasNoMatch, IsRefusal};
 ghost use Rattle.golden_aig.specs.declared.pairing.PortFault.TheVariants as fault;
 
 use crate::graph::Aig;
-use crate::names::NameTable;
 use crate::pairing::{Match, PortFault};
+use first_names::FirstNames;
 use rsfq_ids::circuit::{Bench, Flat};
 use rsfq_ids::id::{Id, PortId};
 use rsfq_ids::list::List;
@@ -19,7 +20,6 @@ use std::alloc::Global;
 /// The data inputs, in port order.
 fn list_data_inputs(alloc: Global, bench: &Bench) -> Result<Vec<PortId>, PortFault>
     ensures ok { IfOk result (λ ports. ports.items ≡ data_inputs bench.now) }
-    ensures few { IfOk result (λ ports. length bench.now.uses < 2 ^ 32) }
     ensures err { IfErr result (λ why. why ≡ fault.Memory) }
 {
     let mut ports = Vec::new(alloc);
@@ -34,7 +34,6 @@ fn list_data_inputs(alloc: Global, bench: &Bench) -> Result<Vec<PortId>, PortFau
 /// The outputs, in port order.
 fn list_outputs(alloc: Global, flat: &Flat) -> Result<Vec<PortId>, PortFault>
     ensures ok { IfOk result (λ ports. ports.items ≡ outputs_of flat.now) }
-    ensures few { IfOk result (λ ports. length flat.now.ports < 2 ^ 32) }
     ensures err { IfErr result (λ why. why ≡ fault.Memory) }
 {
     let mut ports = Vec::new(alloc);
@@ -68,21 +67,19 @@ fn list_symbols(alloc: Global, entries: &[Option<Name>]) -> Result<Vec<&str>, Po
     Ok(symbols)
 }
 
-/// The names of ports as a table, in which each port has its place as number.
+/// The names of ports, each with the first place at which it stands.
 fn tabulate_names<'a>(
     alloc: Global,
     flat: &'a Flat,
     ports: &[PortId],
-) -> Result<NameTable<'a>, PortFault>
-    requires inside { All (λ port. port < length flat.now.ports) ports.now }
-    requires distinct { AreDistinct (names_of flat.now ports.now) }
-    requires few { length ports.now < 2 ^ 32 }
-    ensures ok { IfOk result (λ table. table ≡ names_of flat.entry.now ports.now) }
+) -> Result<FirstNames<'a>, PortFault>
+    requires { All (λ port. port < length flat.now.ports) ports.now }
+    ensures ok { IfOk result (HoldsPlaces (names_of flat.entry.now ports.now)) }
     ensures err { IfErr result (λ why. why ≡ fault.Memory) }
 {
-    let mut table = NameTable::new(alloc);
-    for port in ports {
-        table.see(port_name(flat, *port))?;
+    let mut table = FirstNames::new(alloc);
+    for (place, port) in ports.iter().enumerate() {
+        table.see(port_name(flat, *port), place)?;
     }
     Ok(table)
 }
@@ -94,9 +91,7 @@ fn find_ports(
     ports: &[PortId],
     symbols: &[&str],
 ) -> Result<List<PortId>, PortFault>
-    requires inside { All (λ port. port < length flat.now.ports) ports.now }
-    requires distinct { AreDistinct (names_of flat.now ports.now) }
-    requires few { length ports.now < 2 ^ 32 }
+    requires { All (λ port. port < length flat.now.ports) ports.now }
     ensures names { IfOk result (λ matched. names_of flat.now matched ≡ map (λ text. text.now) symbols.now) }
     ensures ports { IfOk result (λ matched. All (Contains ports.now) matched) }
     ensures err { IfErr result (λ why. IsRefusal why ((name : _) × (why ≡ fault.NoPort name) × LacksPort flat.now ports.now (map (λ text. text.now) symbols.now) name)) }
@@ -104,26 +99,24 @@ fn find_ports(
     let table = tabulate_names(alloc, flat, ports)?;
     let mut matched = List::new(alloc);
     for symbol in symbols {
-        let Some(place) = table.number(symbol) else {
+        let Some(place) = table.find(symbol) else {
             return Err(PortFault::NoPort(Name::of(alloc, symbol)?));
         };
-        matched.push(ports[place as usize])?;
+        matched.push(ports[place])?;
     }
     Ok(matched)
 }
 
 /// Refuses symbols of which one stands there twice.
 fn refuse_repeats(alloc: Global, symbols: &[&str]) -> Result<(), PortFault>
-    requires { length symbols.now < 2 ^ 32 }
     ensures ok { OnOk result (AreDistinct (map (λ text. text.now) symbols.now)) }
     ensures err { IfErr result (λ why. IsRefusal why ((name : _) × (why ≡ fault.Repeated name) × Repeats (map (λ text. text.now) symbols.now) name)) }
 {
-    let mut table = NameTable::new(alloc);
-    for symbol in symbols {
-        if table.number(symbol).is_some() {
+    let mut table = FirstNames::new(alloc);
+    for (place, symbol) in symbols.iter().enumerate() {
+        if !table.see(symbol, place)? {
             return Err(PortFault::Repeated(Name::of(alloc, symbol)?));
         }
-        table.see(symbol)?;
     }
     Ok(())
 }
@@ -135,9 +128,7 @@ fn match_side(
     ports: Vec<PortId>,
     entries: &[Option<Name>],
 ) -> Result<List<PortId>, PortFault>
-    requires inside { All (λ port. port < length flat.now.ports) ports.items }
-    requires distinct { AreDistinct (names_of flat.now ports.items) }
-    requires few { length ports.items < 2 ^ 32 }
+    requires { All (λ port. port < length flat.now.ports) ports.items }
     ensures ok { IfOk result (λ matched. IsMatched flat.now ports.items entries.now matched) }
     ensures err { IfErr result (λ why. IsRefusal why (Refuses flat.now ports.items entries.now why)) }
 {

@@ -3,7 +3,7 @@ use Rattle.std.specs.Borrow.{Bor}
 use Rattle.std.specs.List.{Contains, All}
 use Rattle.std.proofs.lemmas.List.{length-map, get_or-map}
 use Rattle.std.proofs.lemmas.List.Elements.{All-push}
-use Rattle.golden_aig.specs.Names.{number_of}
+use Rattle.golden_aig.specs.FirstPlaces.{place_in}
 use Rattle.golden_aig.specs.Matched.{names_of, LacksPort}
 use Rattle.golden_aig.proofs.Texts.{found_more, port_found, lacks_err}
 use Rattle.golden_aig.proofs.matching.find_ports.Goals as goal
@@ -19,7 +19,7 @@ returns-in_default-clause-err c =
     let many : length texts ≡ length symbols = length-map symbols (λ (text : Bor (List ℕ)). text.now) in
     let test = c.loop-symbol-test.true in
     let name = get_or-map (λ (text : Bor (List ℕ)). text.now) symbols i none [] test in
-    let absent : number_of (names_of flat ports) (get_or symbols i none).now ≡ None = ap (λ (t : List (List ℕ)). number_of t (get_or symbols i none).now) (sym c.in_ok-table.ensures.ok) ∙ sym c.in_default.ensures in
+    let absent : place_in (names_of flat ports) (get_or symbols i none).now ≡ None = sym (c.in_ok-table.ensures.ok (get_or symbols i none).now) ∙ sym c.in_default.ensures in
     inr (
       c.in_ok-of.field-0,
       refl,
@@ -38,11 +38,11 @@ loop-symbol-preserved c =
     let many : length texts ≡ length symbols = length-map symbols (λ (text : Bor (List ℕ)). text.now) in
     let test = c.loop-symbol-test.true in
     let name = get_or-map (λ (text : Bor (List ℕ)). text.now) symbols i none [] test in
-    let number : number_of (names_of flat ports) (get_or symbols i none).now ≡ Some c.in-Some.place = ap (λ (t : List (List ℕ)). number_of t (get_or symbols i none).now) (sym c.in_ok-table.ensures.ok) ∙ sym c.in-Some.ensures in
+    let first : place_in (names_of flat ports) (get_or symbols i none).now ≡ Some c.in-Some.place = sym (c.in_ok-table.ensures.ok (get_or symbols i none).now) ∙ sym c.in-Some.ensures in
     let port = c.index-ports-place.result in
     record {
       names = found_more flat ports c.loop-symbol.matched c.push.new.self texts i c.in-Some.place port (omega arith) c.loop-symbol.invariant.names c.in_ok-push.ensures.ok c.index-ports-place.is
-          (ap (number_of (names_of flat ports)) name ∙ number);
+          (ap (place_in (names_of flat ports)) name ∙ first);
       ports = subst (All (Contains ports)) (sym c.in_ok-push.ensures.ok)
-          (All-push (Contains ports) c.loop-symbol.matched port c.loop-symbol.invariant.ports (port_found flat ports (get_or symbols i none).now c.in-Some.place port c.index-ports-place.is number));
+          (All-push (Contains ports) c.loop-symbol.matched port c.loop-symbol.invariant.ports (port_found flat ports (get_or symbols i none).now c.in-Some.place port c.index-ports-place.is first));
     }

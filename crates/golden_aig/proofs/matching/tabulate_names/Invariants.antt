@@ -1,6 +1,7 @@
-use Rattle.std.proofs.Common.{◌≡◌, take}
+use Rattle.std.proofs.Common.{take}
+use Rattle.golden_aig.specs.FirstPlaces.{HoldsPlaces}
 use Rattle.golden_aig.specs.Matched.{names_of}
 use Rattle.golden_aig.proofs.matching.tabulate_names.Given as goal
 
-abbrev pub invariant-loop-port : goal.invariant-loop-port
-invariant-loop-port l = l.table ≡ take l.port-index (names_of l.flat l.ports)
+abbrev pub invariant-loop-place : goal.invariant-loop-place
+invariant-loop-place l = HoldsPlaces (take l.place (names_of l.flat l.ports)) l.table

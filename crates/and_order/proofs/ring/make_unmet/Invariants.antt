@@ -1,6 +1,0 @@
-use Rattle.std.proofs.Common.{◌≡◌, None}
-use Rattle.std.specs.Prelude.{replicate}
-use Rattle.and_order.proofs.ring.make_unmet.Given as goal
-
-abbrev pub invariant-loop : goal.invariant-loop
-invariant-loop l = l.met.items ≡ replicate l.counter None
