@@ -9,9 +9,9 @@ use Rattle.std.proofs.lemmas.List.Elements.{All-nil, All-push, All-head, All-tai
 use Rattle.std.proofs.lemmas.List.Quantifiers.{all_pairs_push}
 use Rattle.rsfq_ids.specs.Formula.{Clause, IsOver, IsFormula}
 use Rattle.rsfq_ids.specs.declared.circuit.Cnf.{Cnf}
-use Rattle.dimacs_text.specs.Parts.{Part, front, words, lines, is_space, is_blank}
+use Rattle.dimacs_text.specs.Parts.{Part, front, words, lines, is_empty, is_space, is_blank}
 use Rattle.dimacs_text.specs.Number.{number_up_to, is_numeral, signed_of, literal_of}
-use Rattle.dimacs_text.specs.Reading.{Said, with_literal, with_literals, once, after_number, after_word, after_words, after_line, after_lines, unless_fault, at_end, nothing_said, after_head, is_closed, is_comment}
+use Rattle.dimacs_text.specs.Reading.{Said, with_literal, with_literals, once, after_number, after_word, after_words, after_line, after_lines, unless_fault, at_end, nothing_said, after_head, is_comment}
 use Rattle.dimacs_text.specs.declared.number.Signed.{Signed}
 use Rattle.dimacs_text.specs.declared.head.Head.{Head}
 use Rattle.dimacs_text.specs.declared.fault.TextFault.{TextFault}
@@ -103,7 +103,7 @@ words_formed vars said next (w ∷ ws) formed is =
     step_formed vars next (λ n. after_words vars n ws) (after_word vars said w) (λ s e. word_formed vars said s w formed e) (λ s f e. words_formed vars s next ws f e) is
 
 line_formed : (vars : ℕ) (said next : Said) (line : Part) → IsFormed vars said → after_line vars said line ≡ Ok next → IsFormed vars next
-line_formed vars said next line formed is = elim (cases_Bool (is_closed said.pending && is_comment line.bytes)) [
+line_formed vars said next line formed is = elim (cases_Bool (is_empty said.pending && is_comment line.bytes)) [
   | inl e ↦ subst (IsFormed vars) (same_ok _ _ (rw e at is)) formed
   | inr e ↦ words_formed vars said next (words is_blank line.start line.bytes) formed (rw e at is)
 ]
@@ -114,7 +114,7 @@ lines_formed vars said next (l ∷ ls) formed is =
     step_formed vars next (λ n. after_lines vars n ls) (after_line vars said l) (λ s e. line_formed vars said s l formed e) (λ s f e. lines_formed vars s next ls f e) is
 
 end_formed : (len : ℕ) (head : Head) (said : Said) (cnf : Cnf) → head.vars ≤ 2147483647 → head.clauses ≤ 2147483647 → IsFormed head.vars said → at_end len head said ≡ Ok cnf → IsFormula cnf
-end_formed len head said cnf vars clauses formed is = elim (cases_Bool (not (is_closed said.pending))) [
+end_formed len head said cnf vars clauses formed is = elim (cases_Bool (not (is_empty said.pending))) [
   | inl e ↦ absurd (no_ok _ _ (rw e at is))
   | inr e ↦ elim (eqb_tells (length said.closed) head.clauses) [
     | inr t ↦ absurd (no_ok _ _ (rw (e, t.0) at is))

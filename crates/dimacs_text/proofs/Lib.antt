@@ -9,3 +9,15 @@ pub mod Results
 pub mod FieldLemmas
 pub mod Written
 pub mod ReadBack
+mod OnceSays
+pub mod Cases
+pub mod EachOnce
+pub mod Fields
+pub mod Middle
+pub mod Tails
+pub mod TailsFound
+pub mod SpelledTails
+pub mod TailsSpelled
+pub mod SpelledHeads
+pub mod ClosedTexts
+pub mod SpelledTexts

@@ -1,10 +1,11 @@
 -- The parts of a text from a place on.
-use Rattle.std.proofs.Common.{◌≡◌, ◌∙◌, ◌<◌, ◌≤◌, ◌+◌, ◌-◌, ℕ, Bool, true, false, zero, suc, refl, sym, ap, ap₂, subst, arith, take, drop, List, [], ◌∷◌, ◌++◌, length, get_or, drop-cons, add-one, length-drop, inl, inr}
+use Rattle.std.proofs.Common.{◌≡◌, ◌∙◌, ◌<◌, ◌≤◌, ◌+◌, ◌-◌, ℕ, Bool, true, false, zero, suc, refl, sym, ap, ap₂, subst, arith, take, drop, List, [], ◌∷◌, ◌++◌, length, get_or, drop-cons, add-one, length-drop, inl, inr, Some, None}
 use Rattle.std.specs.Prelude.{if◌then◌else◌}
+use Rattle.memchr.specs.Find.{IsFirstByte, is_byte}
 use Rattle.std.specs.List.{filter}
 use Rattle.std.proofs.Math.Seq.{take-length}
 use Rattle.std.proofs.lemmas.Bool.{cases_Bool}
-use Rattle.dimacs_text.specs.Parts.{Part, front, parts, words, with_byte, has_bytes}
+use Rattle.dimacs_text.specs.Parts.{Part, front, parts, words, with_byte, has_bytes, is_newline}
 
 pub split_at : (xs : List ℕ) (i : ℕ) → i < length xs → drop i xs ≡ get_or xs i 0 ∷ drop (i + 1) xs
 split_at xs i lt = rw (add-one, drop-cons xs i 0) refl
@@ -69,3 +70,25 @@ pub front_ends : (p : ℕ → Bool) (at end : ℕ) (text : List ℕ) → end ≡
 front_ends p at end text is =
     let behind : drop end text ≡ drop (length (front p (drop at text))) (drop at text) = ap (λ k. drop k text) is ∙ sym (drop_drop at (length (front p (drop at text))) text) in
     ap (front p) behind ∙ front_stops p (drop at text)
+
+-- ---- newlines
+
+front_to : (p : ℕ → Bool) (xs : List ℕ) (k : ℕ) → k ≤ length xs → ((j : ℕ) → j < k → p (get_or xs j 0) ≡ false) → (k < length xs → p (get_or xs k 0) ≡ true) → length (front p xs) ≡ k
+front_to p [] k le before at = omega arith
+front_to p (x ∷ xs) zero le before at = rw (at (omega arith)) refl
+front_to p (x ∷ xs) (suc k) le before at =
+    rw (before zero (omega arith)) (ap suc (front_to p xs k (omega arith) (λ j lt. before (suc j) (omega arith)) (λ lt. at (omega arith))))
+
+not_so : (b : Bool) → (b ≡ true → ⊥) → b ≡ false
+not_so b never = elim (cases_Bool b) [ inl e ↦ absurd (never e) | inr e ↦ e ]
+
+-- the first newline ends the front, and where there is none it is all
+pub newline_found : (at : ℕ) (text : List ℕ) (k : ℕ) → IsFirstByte (is_byte 10) (drop at text) (Some k) → at + k ≡ at + length (front is_newline (drop at text))
+newline_found at text k found =
+    let high = found.0.high in
+    ap (λ n. at + n) (sym (front_to is_newline (drop at text) k (omega arith) (λ j lt. not_so _ (found.0.before j (omega arith) lt)) (λ lt. found.1)))
+
+pub newline_missing : (at : ℕ) (text : List ℕ) → at ≤ length text → IsFirstByte (is_byte 10) (drop at text) None → length text ≡ at + length (front is_newline (drop at text))
+newline_missing at text le none =
+    let size = front_to is_newline (drop at text) (length (drop at text)) (omega arith) (λ j lt. not_so _ (none j (omega arith) lt)) (λ lt. absurd (omega arith)) in
+    omega (arith, length-drop at text)

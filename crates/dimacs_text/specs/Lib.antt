@@ -3,3 +3,4 @@ pub mod Parts
 pub mod Number
 pub mod Reading
 pub mod Laws
+pub mod Spelled

@@ -8,7 +8,7 @@ use Rattle.std.specs.Option.{option_and_then}
 use Rattle.std.specs.Str.{bytes_eq}
 use Rattle.rsfq_ids.specs.Formula.{Clause}
 use Rattle.rsfq_ids.specs.declared.circuit.Cnf.{Cnf}
-use Rattle.dimacs_text.specs.Parts.{Part, front, lines, words, is_blank, is_space}
+use Rattle.dimacs_text.specs.Parts.{Part, front, lines, words, is_empty, is_blank, is_space}
 use Rattle.dimacs_text.specs.Number.{number_up_to, signed_of, literal_of, whole_of}
 use Rattle.dimacs_text.specs.declared.number.Signed.{Signed}
 use Rattle.dimacs_text.specs.declared.head.Head.{Head}
@@ -76,17 +76,13 @@ abbrev pub after_words : ℕ → Said → List Part → Result Said TextFault
 after_words vars said [] = Ok said
 after_words vars said (word ∷ words) = unless_fault (λ next. after_words vars next words) (after_word vars said word)
 
-abbrev pub is_closed : Clause → Bool
-is_closed [] = true
-is_closed (lit ∷ lits) = false
-
 abbrev pub is_comment : List ℕ → Bool
 is_comment [] = false
 is_comment (b ∷ bs) = b == 99
 
 -- a line: a comment where no clause is open, or words
 abbrev pub after_line : ℕ → Said → Part → Result Said TextFault
-after_line vars said line = if is_closed said.pending && is_comment line.bytes then Ok said else after_words vars said (words is_blank line.start line.bytes)
+after_line vars said line = if is_empty said.pending && is_comment line.bytes then Ok said else after_words vars said (words is_blank line.start line.bytes)
 
 abbrev pub after_lines : ℕ → Said → List Part → Result Said TextFault
 after_lines vars said [] = Ok said
@@ -95,7 +91,7 @@ after_lines vars said (line ∷ rest) = unless_fault (λ next. after_lines vars 
 -- the end of a text of so many bytes: the last clause is closed, and there are as many as the head names
 abbrev pub at_end : ℕ → Head → Said → Result Cnf TextFault
 at_end len head said =
-    if not (is_closed said.pending) then Err (fault len why.Unended)
+    if not (is_empty said.pending) then Err (fault len why.Unended)
     else if length said.closed == head.clauses then Ok (record { vars = head.vars; clauses = said.closed })
     else Err (fault len (why.Count (length said.closed) head.clauses))
 

@@ -1,5 +1,6 @@
 //! The clauses of a text, word by word.
-ghost use Rattle.std.specs.Prelude.{◌≡◌, ◌≢◌, ◌≤◌, ◌<◌, ◌+◌, ◌*◌, ◌^◌, ◌++◌, ◌∷◌, [], length, IfOk, IfErr, OnOk, Ok, Err};
+ghost use Rattle.std.specs.Prelude.{◌≡◌, ◌≢◌, ◌≤◌, ◌<◌, ◌+◌, ◌*◌, ◌^◌, ◌++◌, ◌∷◌, ◌==◌, [], length, IfOk, IfErr, OnOk, Ok, Err};
+ghost use Rattle.std.specs.List.{list_any};
 ghost use Rattle.dimacs_text.specs.Parts.{words, is_blank};
 ghost use Rattle.dimacs_text.specs.Number.{literal_of};
 ghost use Rattle.dimacs_text.specs.Reading.{after_line, after_word, after_words, once, at_end, nothing_said};
@@ -107,10 +108,8 @@ impl Clauses {
         requires { number.size ≤ 2147483647 }
         ensures { OnOk result (self.new ≡ record { closed = self.old.closed; pending = self.old.pending ++ literal_of number ∷ [] }) }
     {
-        match self.pending.push(number.literal()) {
-            Ok(()) => Ok(()),
-            Err(_) => Err(NoMemory),
-        }
+        self.pending.push(number.literal())?;
+        Ok(())
     }
 
     /// Closes the clause that is open.
@@ -150,8 +149,42 @@ impl Clauses {
     }
 }
 
+/// The most literals of a clause whose repeated literals are found by a scan.
+const SHORT: usize = 16;
+
 /// Each literal once, at its first place.
 fn make_once(alloc: Global, lits: &[Lit]) -> Result<List<Lit>, NoMemory>
+    ensures { IfOk result (λ clause. clause ≡ once lits.now) }
+{
+    if lits.len() <= SHORT {
+        once_by_scan(alloc, lits)
+    } else {
+        once_by_set(alloc, lits)
+    }
+}
+
+/// Each literal once, where those before it are looked through, so that a short clause takes no memory but its own.
+fn once_by_scan(alloc: Global, lits: &[Lit]) -> Result<List<Lit>, NoMemory>
+    ensures { IfOk result (λ clause. clause ≡ once lits.now) }
+{
+    let mut clause = List::new(alloc);
+    for lit in lits {
+        if !has_literal(clause.as_slice(), *lit) {
+            clause.push(*lit)?;
+        }
+    }
+    Ok(clause)
+}
+
+/// Whether a clause has a literal.
+fn has_literal(clause: &[Lit], lit: Lit) -> bool
+    ensures { result ≡ list_any (λ other. lit == other) clause.now }
+{
+    clause.iter().any(|other| lit.index() == other.index())
+}
+
+/// Each literal once, where those before it stand in an ordered set.
+fn once_by_set(alloc: Global, lits: &[Lit]) -> Result<List<Lit>, NoMemory>
     ensures { IfOk result (λ clause. clause ≡ once lits.now) }
 {
     let mut clause = List::new(alloc);

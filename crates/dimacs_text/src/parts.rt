@@ -2,6 +2,8 @@
 ghost use Rattle.std.specs.Prelude.{◌≡◌, ◌≤◌, ◌<◌, ◌+◌, ◌-◌, [], ◌∷◌, length, take, drop, MatchOption};
 ghost use Rattle.dimacs_text.specs.Parts.{front, lines, words, is_newline, is_blank, is_space, IsFirstField};
 
+use memchr::memchr;
+
 /// The end of the line that goes on at a place: its newline, or the text's end.
 pub fn line_end(text: &[u8], at: usize) -> usize
     requires { at ≤ length text.now }
@@ -18,11 +20,10 @@ fn newline_from(text: &[u8], at: usize) -> usize
     ensures end { result ≡ at + length (front is_newline (drop at text.now)) }
     ensures within { result ≤ length text.now }
 {
-    let mut end = at;
-    'more: while end < text.len() && text[end] != b'\n' {
-        end += 1;
+    match memchr(b'\n', &text[at..]) {
+        Some(place) => at + place,
+        None => text.len(),
     }
-    end
 }
 
 /// The first word from a place on, where spaces alone part words: where it begins and where it ends. `None` where there is none.

@@ -3,6 +3,8 @@ ghost use Rattle.std.specs.Prelude.{◌≡◌, ◌≢◌, ◌≤◌, ◌+◌, �
 ghost use Rattle.rsfq_ids.specs.Formula.{IsFormula};
 ghost use Rattle.dimacs_text.specs.Parts.{lines};
 ghost use Rattle.dimacs_text.specs.Reading.{reading, without_comments, after_head};
+ghost use Rattle.dimacs_text.specs.Spelled.{Spells};
+ghost use Rattle.rsfq_ids.specs.declared.circuit.Cnf.{Cnf};
 
 use crate::clauses::Clauses;
 use crate::fault::{TextFault, TextWhy};
@@ -11,16 +13,18 @@ use crate::parts::line_end;
 use rsfq_ids::circuit::Cnf;
 use std::alloc::Global;
 
-/// The formula that a text of at most 268,435,456 bytes says, in the DIMACS format.
+/// The formula that a text of at most 268,435,456 bytes says, in the DIMACS format: the one that the text spells.
 ///
 /// # Errors
 ///
-/// The first fault of the text, where it has one. Only `TextWhy::Memory` may come of any text.
+/// The first fault of the text, where it has one: exactly where the text spells no formula. Only `TextWhy::Memory` may come of any text.
 pub fn read_dimacs(alloc: Global, bytes: &[u8]) -> Result<Cnf, TextFault>
     requires { length bytes.now ≤ 268435456 }
     ensures ok { IfOk result (λ cnf. reading bytes.now ≡ Ok cnf) }
     ensures formula { IfOk result IsFormula }
     ensures err { IfErr result (λ fault. fault.why ≢ TextWhy.Memory → reading bytes.now ≡ Err fault) }
+    ensures spelled { IfOk result (λ cnf. Spells bytes.now cnf) }
+    ensures unspelled { IfErr result (λ fault. fault.why ≢ TextWhy.Memory → (cnf : Cnf) → ¬ Spells bytes.now cnf) }
 {
     let at = comments_end(bytes);
     let header = TextFault {

@@ -1,5 +1,8 @@
 //! Texts of small formulas, byte for byte.
-use crate::{TextWhy, read_dimacs, texts_say_formulas, write_dimacs};
+use crate::{
+    TextWhy, one_formula_is_spelled, read_dimacs, readings_are_spelled, texts_say_formulas,
+    write_dimacs,
+};
 use rsfq_ids::circuit::Cnf;
 use rsfq_ids::id::{Id, Lit};
 use rsfq_ids::list::{List, NoMemory};
@@ -61,6 +64,8 @@ fn texts_are_read(rt: HostRuntime) -> Result<(), Fail> {
         assert_eq!(rt; written.as_slice(), again);
     }
     texts_say_formulas();
+    readings_are_spelled();
+    one_formula_is_spelled();
     Ok(())
 }
 

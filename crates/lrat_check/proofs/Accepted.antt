@@ -17,7 +17,7 @@ use Rattle.proof_arena.specs.Step.{StepHolds, is_among, is_tautology, reading, a
 use Rattle.proof_arena.specs.Log.{Log, LogStep, StepsHold, HasEnded}
 use Rattle.proof_arena.specs.declared.hint.HintReading.{HintReading}
 use Rattle.proof_arena.specs.declared.hint.HintReading.TheVariants.{Conflict, Passed, Unit as UnitLit, NotUnit}
-use Rattle.dimacs_text.specs.Parts.{Part, words, lines, is_newline, is_space}
+use Rattle.dimacs_text.specs.Parts.{Part, words, lines, is_newline, is_space, is_empty}
 use Rattle.dimacs_text.specs.Number.{signed_of}
 use Rattle.dimacs_text.specs.Text.{literal_text, spaced_literal}
 use Rattle.dimacs_text.specs.declared.number.Signed.{Signed}
@@ -25,7 +25,7 @@ use Rattle.dimacs_text.proofs.Written.{Separates, newlines, spaces, apart, or_le
 use Rattle.lrat_check.specs.Lines.{addition, number_field, field_of, list_from, list_of, with_hints, addition_of, behind_id, with_id, fields_say, has_outer_space, line_of}
 use Rattle.lrat_check.specs.declared.field.Field.{Field}
 use Rattle.lrat_check.specs.declared.field.Field.TheVariants.{Number}
-use Rattle.lrat_check.specs.Check.{Found, Known, given_at, with_clause, at_reading, at_clause, hints_fault, range_fault, clause_of, addition_fault, added, is_empty, unless_why, after_line, on_from, lines_fault}
+use Rattle.lrat_check.specs.Check.{Found, Known, given_at, with_clause, at_reading, at_clause, hints_fault, range_fault, clause_of, addition_fault, added, unless_why, after_line, on_from, lines_fault}
 use Rattle.lrat_check.specs.declared.fault.LratWhy.{LratWhy}
 use Rattle.lrat_check.specs.Written.{spaced_hint, step_lines, lrat_of, StandsFor, IsAccepted}
 use Rattle.lrat_check.proofs.CheckSays.{is_judged, given_more}
@@ -292,11 +292,11 @@ still refuted step (next ∷ steps) (inr e) =
     let place : length (step ∷ next ∷ steps) - 1 ≡ suc (length (next ∷ steps) - 1) = omega arith in
     inr (subst (λ k. IsSomeAnd (slice_get (step ∷ next ∷ steps) k) (λ (s : LogStep). s.lits ≡ [])) place e)
 
-small_step : (vars : ℕ) (clauses : List Clause) (step : LogStep) → vars < 2 ^ 32 → length clauses + 1 < 2 ^ 32 → IsOver vars step.lits → All (λ hint. hint < length clauses) step.hints → AreSmall (length clauses + 1) step
-small_step vars clauses step fits few over known = record {
+small_step : (vars : ℕ) (clauses : List Clause) (step : LogStep) → vars < 2 ^ 32 → length clauses + 1 < 2 ^ 32 → IsOver vars step.lits → All (λ hint. hint < 2 ^ 32 - 1) step.hints → AreSmall (length clauses + 1) step
+small_step vars clauses step fits few over printed = record {
   id_fits = omega arith;
   lits = λ k d lt. let here : get_or step.lits k d < 2 * vars = over k d lt in omega arith;
-  hints = λ k d lt. let here : get_or step.hints k d < length clauses = known k d lt in omega arith;
+  hints = λ k d lt. let here : get_or step.hints k d < 2 ^ 32 - 1 = printed k d lt in omega arith;
 }
 
 steps_accepted : (vars : ℕ) (clauses : List Clause) (refuted : Bool) (count at : ℕ) (steps : List LogStep) → vars < 2 ^ 32 → length clauses + length steps < 2 ^ 32 → StepsHold vars clauses steps
@@ -305,7 +305,7 @@ steps_accepted vars clauses refuted count at [] fits few holds (inl e) = rw e re
 steps_accepted vars clauses refuted count at [] fits few holds (inr e) = absurd e
 steps_accepted vars clauses refuted count at (step ∷ steps) fits few holds ended =
     let over = (parts_of_hold vars clauses step.lits step.hints holds.0.holds).0 in
-    let small = small_step vars clauses step fits (omega arith) over holds.0.known in
+    let small = small_step vars clauses step fits (omega arith) over holds.0.printed in
     let shape : step_lines (length clauses + 1) (step ∷ steps) ≡ line_bytes (length clauses + 1) step ++ 10 ∷ step_lines (length clauses + 1 + 1) steps = simp append_assoc in
     let split : lines at (step_lines (length clauses + 1) (step ∷ steps))
     ≡ record { start = at; bytes = line_bytes (length clauses + 1) step } ∷ lines (at + suc (length (line_bytes (length clauses + 1) step))) (step_lines (length clauses + 1 + 1) steps) =

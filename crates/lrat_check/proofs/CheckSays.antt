@@ -9,10 +9,11 @@ use Rattle.std.proofs.lemmas.Bool.Decides.{eqb_tells}
 use Rattle.rsfq_ids.specs.Formula.{Clause, opposite}
 use Rattle.rsfq_ids.specs.declared.circuit.Cnf.{Cnf}
 use Rattle.proof_arena.specs.Step.{is_among, reading, is_tautology}
+use Rattle.dimacs_text.specs.Parts.{is_empty}
 use Rattle.dimacs_text.specs.declared.number.Signed.{Signed}
 use Rattle.lrat_check.specs.declared.fault.LratWhy.{LratWhy}
 use Rattle.lrat_check.specs.declared.fault.LratWhy.TheVariants as why
-use Rattle.lrat_check.specs.Check.{Found, Known, given_at, with_clause, without_clause, known_at_first, at_reading, at_clause, hints_fault, range_fault, clause_of, or_else, addition_fault, added, is_empty, deleted, deleted_if}
+use Rattle.lrat_check.specs.Check.{Found, Known, given_at, with_clause, without_clause, known_at_first, at_reading, at_clause, hints_fault, range_fault, clause_of, or_else, addition_fault, added, deleted, deleted_if}
 
 -- the next of numbers
 pub next_number : (xs : List Signed) (i : ℕ) (d : Signed) → i < length xs → drop i xs ≡ get_or xs i d ∷ drop (i + 1) xs
@@ -40,9 +41,10 @@ pub told : (lits made : Clause) (marked : ℕ → Bool) (b : Bool) → made ≡ 
 told lits made marked b same is any =
     sym (any ∙ ap (λ (f : ℕ → Bool). list_any (λ lit. f (opposite lit)) made) is ∙ ap (λ (c : Clause). list_any (λ lit. is_among lits (opposite lit)) c) same)
 
-pub added_as : (known : Known) (found : Found) (id : ℕ) (clause : Clause) (b : Bool) → found ≡ with_clause known.found id clause → b ≡ (known.refuted || is_empty clause)
-    → added known id clause ≡ record { found = found; last = id; refuted = b }
-added_as known found id clause b is empty = ap₂ (λ (f : Found) (e : Bool). record { found = f; last = id; refuted = e }) (sym is) (sym empty)
+pub added_as : (known : Known) (found : Found) (id last : ℕ) (clause : Clause) (b : Bool) → found ≡ with_clause known.found id clause → last ≡ id → b ≡ (known.refuted || is_empty clause)
+    → added known id clause ≡ record { found = found; last = last; refuted = b }
+added_as known found id last clause b is same empty =
+    ap₂ (λ (f : Found) (e : Bool). record { found = f; last = id; refuted = e }) (sym is) (sym empty) ∙ ap (λ n. record { found = found; last = n; refuted = b }) (sym same)
 
 pub none_of : (lits : List Signed) → (length lits == 0) ≡ is_empty (clause_of lits)
 none_of [] = refl

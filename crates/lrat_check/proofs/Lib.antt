@@ -12,3 +12,4 @@ pub mod Accepted
 mod StepLaw
 mod CommandLaw
 mod Reached
+pub mod EntrySays

@@ -1,12 +1,12 @@
 -- When a proof in the LRAT text format holds: line by line, against the clauses that are known by their ids.
 -- The format is that of Cruz-Filipe, Heule, Hunt, Kaufmann and Schneider-Kamp (Efficient certified RAT verification, 2017), without RAT.
-use Rattle.std.specs.Prelude.{ℕ, suc, zero, ◌+◌, ◌==◌, ◌||◌, Bool, true, false, not, if◌then◌else◌, List, [], ◌∷◌, length, map, Option, Some, None, Result, Ok, Err, nat_lt, slice_get}
+use Rattle.std.specs.Prelude.{ℕ, suc, zero, ◌+◌, ◌==◌, ◌||◌, Bool, false, not, if◌then◌else◌, List, [], ◌∷◌, length, map, Option, Some, None, Result, Ok, Err, nat_lt, slice_get}
 use Rattle.rsfq_ids.specs.Formula.{Clause, opposite}
 use Rattle.rsfq_ids.specs.declared.circuit.Cnf.{Cnf}
 use Rattle.proof_arena.specs.Step.{is_among, makes_false, reading, is_tautology}
 use Rattle.proof_arena.specs.declared.hint.HintReading.{HintReading}
 use Rattle.proof_arena.specs.declared.hint.HintReading.TheVariants.{Conflict, Passed, Unit as UnitLit, NotUnit}
-use Rattle.dimacs_text.specs.Parts.{Part, lines}
+use Rattle.dimacs_text.specs.Parts.{Part, is_empty, lines}
 use Rattle.dimacs_text.specs.Number.{literal_of, whole_of}
 use Rattle.dimacs_text.specs.declared.number.Signed.{Signed}
 use Rattle.lrat_check.specs.declared.fault.LratFault.{LratFault}
@@ -80,10 +80,6 @@ addition_fault vars known id lits hints =
     if is_tautology (clause_of lits) then Some why.Tautology
     else hints_fault known.found (is_among (clause_of lits)) hints
     )
-
-abbrev pub is_empty : Clause → Bool
-is_empty [] = true
-is_empty (lit ∷ lits) = false
 
 -- the clauses with one more
 abbrev pub added : Known → ℕ → Clause → Known

@@ -1,6 +1,8 @@
 pub mod Lines
 pub mod Check
 pub mod Forms
+pub mod Entries
+pub mod Held
 pub mod Tables
 pub mod Reached
 pub mod Grammar

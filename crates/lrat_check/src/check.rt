@@ -7,7 +7,8 @@ ghost use Rattle.proof_arena.specs.Table.{falses_of};
 ghost use Rattle.dimacs_text.specs.Parts.{lines};
 ghost use Rattle.lrat_check.specs.Forms.{form_of};
 ghost use Rattle.lrat_check.specs.Lines.{line_of};
-ghost use Rattle.lrat_check.specs.Tables.{found_of, known_of, HasNearTable};
+ghost use Rattle.lrat_check.specs.Entries.{found_of};
+ghost use Rattle.lrat_check.specs.Tables.{known_of, HasNearTable};
 ghost use Rattle.lrat_check.specs.Reached.{vars_up_to};
 ghost use Rattle.lrat_check.specs.Check.{after_line, addition_fault, added, clause_of, deleted, hints_fault, range_fault, lines_fault, text_fault, unless_why, keeps, at_end, known_at_first};
 
@@ -29,7 +30,6 @@ struct Checker<'a> {
     vars: u32,
     arena: &'a Bump,
     table: ClauseTable<'a>,
-    last: u32,
     refuted: bool,
     reach: Reach,
     marks: Marks,
@@ -50,7 +50,6 @@ impl<'a> Checker<'a> {
             vars: cnf.vars,
             arena,
             table: ClauseTable::new(alloc, cnf)?,
-            last: cnf.clauses.len() as u32,
             refuted: false,
             reach,
             marks: Marks::new(alloc, reach.near())?,
@@ -122,7 +121,7 @@ impl<'a> Checker<'a> {
         ensures err { IfErr result (λ why. why ≢ LratWhy.Memory → unless_why (addition_fault self.old.vars (known_of self.old) id lits.now hints.now) (added (known_of self.old) id (clause_of lits.now)) ≡ Err why) }
         ensures vars { self.new.vars ≡ self.old.vars }
     {
-        if id <= self.last {
+        if id <= self.table.last() {
             return Err(LratWhy::Id);
         }
         read_clause(self.vars, lits, &mut self.clause)?;
@@ -137,7 +136,6 @@ impl<'a> Checker<'a> {
             return Err(LratWhy::Memory);
         };
         self.table.add(id, clause)?;
-        self.last = id;
         self.refuted = self.refuted || lits.is_empty();
         Ok(())
     }

@@ -48,10 +48,7 @@ pub(crate) fn read_list(
         at = to;
         match read_field(&line[from..to]) {
             Field::End => return Ok(Some(at)),
-            Field::Number(number) => match list.push(number) {
-                Ok(()) => {}
-                Err(_) => return Err(NoMemory),
-            },
+            Field::Number(number) => list.push(number)?,
             Field::Broken => return Ok(None),
         }
     }

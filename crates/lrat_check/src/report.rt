@@ -12,13 +12,15 @@ use rsfq_ids::list::NoMemory;
 use rsfq_outside::{Reply, Status};
 use std::alloc::{AllocError, Global};
 
-/// The verdict on the text of a formula and the text of a proof.
-pub(crate) fn verify(alloc: Global, cnf: &[u8], proof: &[u8]) -> Result<Reply, NoMemory>
-    requires cnf { length cnf.now ≤ 268435456 }
+/// The verdict on the text of a formula, which is dropped once it is read, and the text of a proof.
+pub(crate) fn verify(alloc: Global, cnf: Vec<u8>, proof: &[u8]) -> Result<Reply, NoMemory>
+    requires cnf { length cnf.items ≤ 268435456 }
     requires proof { length proof.now ≤ 268435456 }
-    ensures { IfOk result (λ reply. verdict_of cnf.now proof.now ≡ record { status = reply.status; text = reply.text.items }) }
+    ensures { IfOk result (λ reply. verdict_of cnf.items proof.now ≡ record { status = reply.status; text = reply.text.items }) }
 {
-    let formula = match read_dimacs(alloc, cnf) {
+    let read = read_dimacs(alloc, &cnf);
+    drop(cnf);
+    let formula = match read {
         Ok(formula) => formula,
         Err(fault) => return refuse_cnf(alloc, fault),
     };
@@ -41,9 +43,7 @@ fn refuse_cnf(alloc: Global, fault: TextFault) -> Result<Reply, NoMemory>
     if fault.why == TextWhy::Memory {
         return Err(NoMemory);
     }
-    let mut text = Vec::from_slice(alloc, b"refused cnf ")?;
-    append_number(&mut text, u64::from(fault.offset))?;
-    text.extend_from_slice(b" ")?;
+    let mut text = start_refusal(alloc, b"refused cnf ", fault.offset)?;
     append_cnf_why(&mut text, fault.why)?;
     text.extend_from_slice(b"\n")?;
     Ok(Reply {
@@ -61,15 +61,23 @@ fn refuse_proof(alloc: Global, fault: LratFault) -> Result<Reply, NoMemory>
     if fault.why == LratWhy::Memory {
         return Err(NoMemory);
     }
-    let mut text = Vec::from_slice(alloc, b"refused proof ")?;
-    append_number(&mut text, u64::from(fault.line))?;
-    text.extend_from_slice(b" ")?;
+    let mut text = start_refusal(alloc, b"refused proof ", fault.line)?;
     append_proof_why(&mut text, fault.why)?;
     text.extend_from_slice(b"\n")?;
     Ok(Reply {
         status: Status::Refused,
         text,
     })
+}
+
+/// The words of a refusal, the number of its place, and a space.
+fn start_refusal(alloc: Global, words: &[u8], place: u32) -> Result<Vec<u8>, NoMemory>
+    ensures { IfOk result (λ text. text.items ≡ words.now ++ decimal place ++ codes " ") }
+{
+    let mut text = Vec::from_slice(alloc, words)?;
+    append_number(&mut text, u64::from(place))?;
+    text.extend_from_slice(b" ")?;
+    Ok(text)
 }
 
 /// Appends why a text is no formula.

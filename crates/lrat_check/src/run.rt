@@ -34,7 +34,7 @@ fn prepare<F: Folder>(alloc: Global, words: &[String], folder: &mut F) -> Result
         Err(WordsFault::Memory) => return Err(NoMemory),
     };
     match read_file(alloc, names.cnf, TEXT_LIMIT, folder) {
-        Ok(cnf) => prepare_proof(alloc, &cnf, names.proof, folder),
+        Ok(cnf) => prepare_proof(alloc, cnf, names.proof, folder),
         Err(Stop::Due(reply)) => Ok(reply),
         Err(Stop::Memory) => Err(NoMemory),
     }
@@ -43,12 +43,12 @@ fn prepare<F: Folder>(alloc: Global, words: &[String], folder: &mut F) -> Result
 /// The status that is due on the text of a formula, with its whole text. It reads at most the proof.
 fn prepare_proof<F: Folder>(
     alloc: Global,
-    cnf: &[u8],
+    cnf: Vec<u8>,
     proof: &str,
     folder: &mut F,
 ) -> Result<Reply, NoMemory>
-    requires { length cnf.now ≤ 268435456 }
-    ensures due { IfOk result (λ reply. IsReplied (folder_run (F.told folder.old) (F.faults folder.old) (F.faults folder.new) (F.blamed folder.new)) proof.now cnf.now reply.status reply.text.items) }
+    requires { length cnf.items ≤ 268435456 }
+    ensures due { IfOk result (λ reply. IsReplied (folder_run (F.told folder.old) (F.faults folder.old) (F.faults folder.new) (F.blamed folder.new)) proof.now cnf.items reply.status reply.text.items) }
     ensures told { F.told folder.new ≡ F.told folder.old }
     ensures later { F.faults folder.old ≤ F.faults folder.new }
 {
@@ -65,8 +65,9 @@ fn prepare_proof<F: Folder>(
 ///
 /// `Accepted` with the line `verified` where every line of the proof holds and an empty clause is added; then no assignment satisfies the
 /// formula. `Refused` with the first cause: a file of more than 256 MiB, the first fault of the formula's text, or of the proof's. `Words`
-/// with the usage line where the words are not two values, which is where the simple command `rsfq_lrat CNF PROOF` refuses them. `Fault` where the folder fails at a read, with the line that says so, or where
-/// the sink fails. `Memory` where memory is wanting, and then nothing was written.
+/// with the usage line where the words are not two values, which is where the simple command `rsfq_lrat CNF PROOF` refuses them. `Fault`
+/// where the folder fails at a read, with the line that says so, or where the sink fails. `Memory` where memory is wanting, and then nothing
+/// was written.
 pub fn lrat_run<F: Folder, S: Sink>(
     alloc: Global,
     words: &[String],

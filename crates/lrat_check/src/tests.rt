@@ -176,6 +176,34 @@ fn the_first_cause_of_a_line(rt: HostRuntime) -> Result<(), Fail> {
     Ok(())
 }
 
+// Each row: a proof of the chain's formula whose failing line hints at its own id, deletes a clause twice, or has fields that are no numbers.
+#[test]
+fn faults_of_ids_and_fields(rt: HostRuntime) -> Result<(), Fail> {
+    let faults: [(&[u8], u32, LratWhy); 6] = [
+        (b"4 2 0 4 0\n", 1, LratWhy::NoClause(4)),
+        (b"1 d 1 0\n1 d 1 0\n", 2, LratWhy::NoClause(1)),
+        (b" \n", 1, LratWhy::Syntax),
+        (b"\r\n4 0 1 2 3 0\n", 1, LratWhy::Syntax),
+        (b"4 - 0 1 0\n", 1, LratWhy::Syntax),
+        (b"4 0 d 0\n", 1, LratWhy::Syntax),
+    ];
+    let Ok(cnf) = read_dimacs(rt.alloc(), CHAIN) else {
+        panic!(rt; "refused formula");
+    };
+    for (proof, line, why) in faults {
+        assert!(rt; proof.len() < 1000);
+        let arena = Bump::new(rt.alloc());
+        match check_text(rt.alloc(), &cnf, proof, &arena) {
+            Ok(()) => panic!(rt; "verified"),
+            Err(fault) => {
+                assert_eq!(rt; fault.line, line);
+                assert_eq!(rt; fault.why, why);
+            }
+        }
+    }
+    Ok(())
+}
+
 fn words_of(alloc: Global, words: &[&str]) -> Result<Vec<String>, AllocError> {
     let mut all = Vec::new(alloc);
     for word in words {

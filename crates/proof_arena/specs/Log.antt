@@ -1,5 +1,5 @@
 -- What a proof log means: the clauses that were given, and the steps after them.
-use Rattle.std.specs.Prelude.{◌≡◌, ℕ, Bool, ◌<◌, ◌-◌, List, [], ◌∷◌, ◌++◌, length, map, ⊤, IsSomeAnd, slice_get}
+use Rattle.std.specs.Prelude.{◌≡◌, ℕ, Bool, ◌<◌, ◌-◌, ◌^◌, List, [], ◌∷◌, ◌++◌, length, map, ⊤, IsSomeAnd, slice_get}
 use Rattle.std.specs.List.{All}
 use Rattle.rsfq_ids.specs.Formula.{Clause, Satisfies}
 use Rattle.proof_arena.specs.Step.{StepHolds}
@@ -21,10 +21,10 @@ lits_of steps = map (λ (step : LogStep). step.lits) steps
 abbrev pub clauses_of : Log → List Clause
 clauses_of log = log.given ++ lits_of log.steps
 
--- a step holds against the clauses before it, and each of its hints names one of them, also behind the conflict
+-- a step holds against the clauses before it, and the printed number of each of its hints, which is one more, is at most 4,294,967,295, also behind the conflict
 pub record IsStep (vars : ℕ) (before : List Clause) (step : LogStep) : Type 0 where
   pub holds : StepHolds vars before step.lits step.hints
-  pub known : All (λ hint. hint < length before) step.hints
+  pub printed : All (λ hint. hint < 2 ^ 32 - 1) step.hints
 
 -- and so does each step
 abbrev pub StepsHold : ℕ → List Clause → List LogStep → Type 0

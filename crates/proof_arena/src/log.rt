@@ -55,27 +55,21 @@ impl<'a> ProofLog<'a> {
         }
     }
 
-    /// Adds a step that holds and whose hints all name clauses, copies its clause and its hints into the arena, and answers the number of
-    /// its clause. After a refusal the log is as it was.
+    /// Adds a step that holds and whose hints have printed numbers up to 4,294,967,295, copies its clause and its hints into the arena, and
+    /// answers the number of its clause. After a refusal the log is as it was.
     pub fn add(&mut self, lits: &[Lit], hints: &[ClauseId]) -> Result<ClauseId, NoMemory>
         requires holds { StepHolds self.old.vars (clauses_of self.old) lits.now hints.now }
-        requires known { All (λ hint. hint < length (clauses_of self.old)) hints.now }
+        requires printed { All (λ hint. hint < 2 ^ 32 - 1) hints.now }
         requires room { length (clauses_of self.old) < 2 ^ 32 - 1 }
         ensures id { IfOk result (λ id. id ≡ length (clauses_of self.old)) }
         ensures added { IfOk result (λ _. self.new ≡ record self.old { steps = self.old.steps ++ record { lits = lits.now; hints = hints.now } ∷ [] }) }
         ensures kept { OnErr result (self.new ≡ self.old) }
     {
         let index = (self.cnf.clauses.len() + self.steps.len()) as u32;
-        let Ok(lits) = self.arena.try_alloc_slice_copy(lits) else {
-            return Err(NoMemory);
-        };
-        let Ok(hints) = self.arena.try_alloc_slice_copy(hints) else {
-            return Err(NoMemory);
-        };
-        match self.steps.push(Step { lits, hints }) {
-            Ok(()) => Ok(ClauseId::of(index)),
-            Err(_) => Err(NoMemory),
-        }
+        let lits = self.arena.try_alloc_slice_copy(lits)?;
+        let hints = self.arena.try_alloc_slice_copy(hints)?;
+        self.steps.push(Step { lits, hints })?;
+        Ok(ClauseId::of(index))
     }
 
     /// The clause of a number.

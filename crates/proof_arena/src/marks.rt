@@ -44,14 +44,12 @@ impl Marks {
         ensures size { IfOk result (λ m. length m.table ≡ 2 * vars) }
     {
         let mut stamps = Vec::new(alloc);
-        match stamps.resize(2 * vars as usize, 0) {
-            Ok(()) => Ok(Marks {
-                stamps,
-                count: 1,
-                beyond: BTreeSet::new(alloc),
-            }),
-            Err(_) => Err(NoMemory),
-        }
+        stamps.resize(2 * vars as usize, 0)?;
+        Ok(Marks {
+            stamps,
+            count: 1,
+            beyond: BTreeSet::new(alloc),
+        })
     }
 
     /// Takes all marks back.
@@ -77,10 +75,7 @@ impl Marks {
     {
         let size = 2 * vars as usize;
         if self.stamps.len() < size {
-            match self.stamps.resize(size, 0) {
-                Ok(()) => {}
-                Err(_) => return Err(NoMemory),
-            }
+            self.stamps.resize(size, 0)?;
         }
         self.clear();
         Ok(())
@@ -105,10 +100,8 @@ impl Marks {
             self.make_false(lit);
             return Ok(());
         }
-        match self.beyond.insert(place as u32) {
-            Ok(_) => Ok(()),
-            Err(_) => Err(NoMemory),
-        }
+        self.beyond.insert(place as u32)?;
+        Ok(())
     }
 
     /// Whether a literal is false.

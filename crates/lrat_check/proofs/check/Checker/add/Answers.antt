@@ -2,7 +2,8 @@ use Rattle.std.proofs.Common.{◌≡◌, ◌∙◌, Bool, ℕ, ap, sym, refl, ar
 use Rattle.std.proofs.lemmas.Result.{err_from_is_err_and}
 use Rattle.proof_arena.specs.Table.{falses_of}
 use Rattle.lrat_check.specs.Check.{clause_of, hints_fault, unless_why, added, with_clause, Known}
-use Rattle.lrat_check.specs.Tables.{found_of, known_of}
+use Rattle.lrat_check.specs.Entries.{found_of, last_of}
+use Rattle.lrat_check.specs.Tables.{known_of}
 use Rattle.lrat_check.proofs.CheckSays.{is_tautologous, is_judged, denied, told, added_as, none_of}
 use Rattle.lrat_check.proofs.check.Checker.add.Goals as goal
 use Rattle.lrat_check.proofs.check.Checker.add.Goals.{then-self, else-self}
@@ -43,7 +44,7 @@ returns-clause-ok c =
     (is_judged c.args.self.now.vars (known_of c.args.self.now) c.args.id c.args.lits.now c.args.hints.now (omega arith) c.in_ok-read_clause.ensures.ok.0 (taut ∙ c.if-has_true.false)
     ∙ ap (λ (f : ℕ → Bool). hints_fault (found_of c.args.self.now.table) f c.args.hints.now) (sym falses)
     ∙ c.in_ok-find_conflict.ensures.ok)
-    ∙ ap (λ (k : Known). Ok k) (added_as (known_of c.args.self.now) (found_of c.add.new.self) c.args.id lits c.if-self.self (c.in_ok-add.ensures ∙ ap (with_clause (found_of c.args.self.now.table) c.args.id) (c.in-Ok.ensures ∙ third))
+    ∙ ap (λ (k : Known). Ok k) (added_as (known_of c.args.self.now) (found_of c.add.new.self) c.args.id (last_of 0 c.add.new.self) lits c.if-self.self (c.in_ok-add.ensures.found ∙ ap (with_clause (found_of c.args.self.now.table) c.args.id) (c.in-Ok.ensures ∙ third)) c.in_ok-add.ensures.last
     (elim c.if-self.branch [
       | then-self w ↦ w.self-is ∙ sym (rw w.if-self.true refl)
       | else-self w ↦ w.self-is ∙ (w.is_empty-self.ensures ∙ (none_of c.args.lits.now ∙ sym (rw w.if-self.false refl)))

@@ -1,7 +1,7 @@
 use Rattle.std.proofs.Common.{◌∙◌, ◌+◌, ap, sym, drop, get_or, false}
 use Rattle.dimacs_text.specs.declared.number.Signed.{Signed}
 use Rattle.lrat_check.specs.Check.{Found, deleted}
-use Rattle.lrat_check.specs.Tables.{found_of}
+use Rattle.lrat_check.specs.Entries.{found_of}
 use Rattle.lrat_check.proofs.CheckSays.{one_deleted, next_number}
 use Rattle.lrat_check.proofs.check.Checker.delete.Goals as goal
 
@@ -11,7 +11,7 @@ zero_number = record { negative = false; size = 0 }
 pub loop-id-preserved : goal.loop-id-preserved
 loop-id-preserved c = record {
   vars = c.loop-id.invariant.vars;
-  last = c.loop-id.invariant.last;
+  last = c.remove.ensures.last ∙ c.loop-id.invariant.last;
   refuted = c.loop-id.invariant.refuted;
   rest = c.loop-id.invariant.rest
       ∙ (ap (deleted (found_of c.loop-id.self.table)) (next_number c.args.ids.now c.loop-id.id-index zero_number c.loop-id-test.true)

@@ -5,18 +5,12 @@ use Rattle.proof_arena.specs.Step.{makes_false}
 use Rattle.proof_arena.specs.Table.{Marked, falses_of}
 use Rattle.proof_arena.proofs.Marked.{beyond_falses, inserted}
 use Rattle.proof_arena.proofs.marks.Marks.make_any_false.Goals as goal
-use Rattle.proof_arena.proofs.marks.Marks.make_any_false.Goals.{in-Ok, in-Err}
 
 pub returns-clause-falses : goal.returns-clause-falses
 returns-clause-falses c =
     let size : length (map (λ (s : ℕ). s == c.self.inside.count) c.self.inside.stamps.items) ≡ length c.self.inside.stamps.items =
     length-map c.self.inside.stamps.items (λ (s : ℕ). s == c.self.inside.count) in
     let past : length (map (λ (s : ℕ). s == c.self.inside.count) c.self.inside.stamps.items) ≤ c.index-place.result = omega arith in
-    elim c.match-insert.branch [
-      | in-Ok w ↦ rw w.result-is (
-          beyond_falses (map (λ (s : ℕ). s == c.self.inside.count) c.self.inside.stamps.items) c.self.inside.beyond.keys c.insert.new.self.keys c.index-place.result past
-          (inserted c.self.inside.beyond.keys c.insert.new.self.keys c.index-place.result w.in-Ok.ensures.updates.0)
-          ∙ (ap (λ (m : Marked). makes_false (falses_of m) c.index-place.result) c.self.view_is ∙ ap (makes_false (falses_of c.args.self.now)) c.index-place.ensures.number)
-          )
-      | in-Err w ↦ rw w.result-is tt
-    ]
+    beyond_falses (map (λ (s : ℕ). s == c.self.inside.count) c.self.inside.stamps.items) c.self.inside.beyond.keys c.insert.new.self.keys c.index-place.result past
+    (inserted c.self.inside.beyond.keys c.insert.new.self.keys c.index-place.result c.in_ok-insert.ensures.updates.0)
+    ∙ (ap (λ (m : Marked). makes_false (falses_of m) c.index-place.result) c.self.view_is ∙ ap (makes_false (falses_of c.args.self.now)) c.index-place.ensures.number)

@@ -4,7 +4,7 @@ use Rattle.std.specs.Prelude.{◌==◌}
 use Rattle.std.specs.Ordering.{nat_cmp}
 use Rattle.std.specs.BTreeSet.{contains}
 use Rattle.dimacs_text.specs.Reading.{with_literals, once}
-use Rattle.dimacs_text.proofs.clauses.make_once.Given as goal
+use Rattle.dimacs_text.proofs.clauses.once_by_set.Given as goal
 
 abbrev pub invariant-loop-lit : goal.invariant-loop-lit
 invariant-loop-lit l = record {
