@@ -56,7 +56,7 @@ impl SiteCheck {
         ensures { AnswersAt self (setting_of design.now) (sites_of scope.now) site result }
     {
         match self {
-            SiteCheck::Kinds => unknown_kind(alloc, design, scope, site),
+            SiteCheck::Kinds => unknown_kind(alloc, design, scope, at, site),
             SiteCheck::UnknownPorts => refuse_port(alloc, design, at, site),
             SiteCheck::TooManyLinks => refuse_links(design, at, site),
             SiteCheck::UnknownNames => refuse_name(alloc, scope, site),

@@ -4,14 +4,16 @@ ghost use Rattle.std.specs.Prelude.{◌≡◌, ◌<◌, ℕ, List, length, IfSom
 ghost use Rattle.std.specs.Option.{option_map};
 ghost use Rattle.verilog_sites.specs.View.{view_site};
 ghost use Rattle.module_scope.specs.Scoped.{sites_of};
-ghost use Rattle.bound_source.specs.Faults.{IsKind};
+ghost use Rattle.bound_source.specs.Modules.{Setting};
+ghost use Rattle.bound_source.specs.Faults.{IsKind, HasSites};
 ghost use Rattle.kind_ports.specs.Design.{setting_of};
+ghost use Rattle.kind_ports.specs.Meanings.{IsMeant};
 ghost use Rattle.bind_faults.specs.declared.check.SiteCheck.TheVariants.{Kinds};
 ghost use Rattle.bind_faults.specs.Checks.{AnswersAt, IsUnknownKind, kind_of};
 ghost use Rattle.bind_faults.specs.Design.{IsTold};
 
 use bound_source::BindFault;
-use kind_ports::Design;
+use kind_ports::{Design, KindName};
 use module_scope::Scope;
 use rsfq_ids::name::Name;
 use std::alloc::Global;
@@ -27,31 +29,35 @@ fn instance_kind<'a>(site: &Site<'a>) -> Option<&'a str>
     }
 }
 
-/// The name, where it is neither a module's nor a cell's.
-fn unless_kind<'a>(design: &Design<'_, 'a>, name: &'a str) -> Option<&'a str>
-    requires { IsTold design.now }
-    ensures found { IfSome result (λ found. (found.now ≡ name.entry.now) × (¬ IsKind (setting_of design.now) name.entry.now)) }
-    ensures none { IfNone result (IsKind (setting_of design.now) name.entry.now) }
+/// The name of a kind, where it is neither a module's nor a cell's.
+fn unless_kind<'k>(kind: KindName<'k>) -> Option<&'k str>
+    ensures found { IfSome result (λ found. (found.now ≡ kind.entry.name.now) × ((setting : Setting) → IsMeant setting kind.entry → ¬ IsKind setting kind.entry.name.now)) }
+    ensures none { IfNone result ((setting : Setting) → IsMeant setting kind.entry → IsKind setting kind.entry.name.now) }
 {
-    match design.meaning(name) {
+    match kind.meaning {
         Some(_) => None,
-        None => Some(name),
+        None => Some(kind.name),
     }
 }
 
-/// The kind of an instance at a site, where it is neither a module nor a cell.
+/// The kind of an instance at a site of the module at a place of the text, where it is neither a module nor a cell.
 fn find_unknown_kind<'a>(
     design: &Design<'_, 'a>,
     scope: &Scope<'_, 'a>,
+    at: usize,
     site: usize,
 ) -> Option<&'a str>
     requires told { IsTold design.now }
+    requires sites { HasSites (setting_of design.now) at (sites_of scope.now) }
     requires there { site < length (sites_of scope.now) }
     ensures found { IfSome result (λ kind. IsUnknownKind (setting_of design.now) (sites_of scope.now) site kind.now) }
     ensures none { IfNone result ((kind : List ℕ) → ¬ IsUnknownKind (setting_of design.now) (sites_of scope.now) site kind) }
 {
     match instance_kind(&scope.sites[site]) {
-        Some(kind) => unless_kind(design, kind),
+        Some(name) => unless_kind(KindName {
+            name,
+            meaning: design.meaning_at(at, site),
+        }),
         None => None,
     }
 }
@@ -61,13 +67,15 @@ pub fn unknown_kind<'a>(
     alloc: Global,
     design: &Design<'_, 'a>,
     scope: &Scope<'_, 'a>,
+    at: usize,
     site: usize,
 ) -> Result<(), BindFault>
     requires told { IsTold design.now }
+    requires sites { HasSites (setting_of design.now) at (sites_of scope.now) }
     requires there { site < length (sites_of scope.now) }
     ensures { AnswersAt Kinds (setting_of design.now) (sites_of scope.now) site result }
 {
-    match find_unknown_kind(design, scope, site) {
+    match find_unknown_kind(design, scope, at, site) {
         Some(kind) => Err(BindFault::NoSuchModule(Name::of(alloc, kind)?)),
         None => Ok(()),
     }

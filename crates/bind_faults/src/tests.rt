@@ -4,7 +4,7 @@ ghost use Rattle.std.specs.Prelude.{◌≤◌, ◌^◌, length};
 
 use super::*;
 use bound_source::BindFault;
-use kind_ports::{Design, ports_of, scopes_of, sites_of};
+use kind_ports::{Design, meanings_of, ports_of, scopes_of, sites_of, widths_of};
 use module_tree::Kinds;
 use rsfq_ids::list::{List, NoMemory};
 use rsfq_ids::name::Name;
@@ -50,27 +50,16 @@ fn table(alloc: Global) -> Result<CellTable, NoMemory> {
     Ok(CellTable { rows })
 }
 
-/// A fault with its names.
+/// A fault with its names, those of a ring too.
 fn printed(alloc: Global, fault: &BindFault) -> Result<String, Fail> {
-    match fault {
-        BindFault::DuplicateName(one, other) | BindFault::TwoTops(one, other) => Ok(
-            format!(in alloc; "{fault} {} {}", one.as_str(), other.as_str())?,
-        ),
-        BindFault::NoSuchModule(name)
-        | BindFault::UnknownPort(name)
-        | BindFault::PortTwice(name)
-        | BindFault::NoSuchName(name)
-        | BindFault::Range(name) => Ok(format!(in alloc; "{fault} {}", name.as_str())?),
-        BindFault::Recursive(names) => {
-            let mut text = format!(in alloc; "{fault}")?;
-            for name in names.as_slice() {
-                text.push_str(" ")?;
-                text.push_str(name.as_str())?;
-            }
-            Ok(text)
+    let mut text = format!(in alloc; "{fault}")?;
+    if let BindFault::Recursive(names) = fault {
+        for name in names.as_slice() {
+            text.push_str(" ")?;
+            text.push_str(name.as_str())?;
         }
-        _ => Ok(format!(in alloc; "{fault}")?),
     }
+    Ok(text)
 }
 
 /// The fault of a text, or its top with what it reaches.
@@ -83,6 +72,8 @@ fn answer(alloc: Global, text: &[u8], top: Option<&str>) -> Result<String, Fail>
     let all = sites_of(alloc, &source)?;
     let scopes = scopes_of(alloc, all.as_slice())?;
     let ports = ports_of(alloc, &source)?;
+    let meanings = meanings_of(alloc, &source, &kinds, all.as_slice())?;
+    let widths = widths_of(alloc, &source, scopes.as_slice())?;
     let design = Design {
         source: &source,
         cells: &cells,
@@ -90,6 +81,8 @@ fn answer(alloc: Global, text: &[u8], top: Option<&str>) -> Result<String, Fail>
         kinds: &kinds,
         scopes: scopes.as_slice(),
         ports: ports.as_slice(),
+        meanings: meanings.as_slice(),
+        widths: widths.as_slice(),
     };
     match find_fault(alloc, &design) {
         Ok(found) => Ok(format!(in alloc;
@@ -202,7 +195,11 @@ fn faults_are_found_in_their_order(rt: HostRuntime) -> Result<(), Fail> {
             None,
             "width 2 1",
         ),
-        ("module t(input [4096:0]a);endmodule", None, "width 4097"),
+        (
+            "module t(input [4096:0]a);endmodule",
+            None,
+            "limit width 4097",
+        ),
         ("module t(input [4095:0]a);endmodule", None, "0 [true] [0]"),
     ];
     for (text, top, wanted) in table {

@@ -11,4 +11,3 @@ pub mod Follows
 pub mod Ones
 pub mod Unique
 pub mod Answered
-pub mod Rings

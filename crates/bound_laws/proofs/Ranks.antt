@@ -12,7 +12,6 @@ use Rattle.bound_source.specs.declared.bound.Bound.{Bound}
 use Rattle.bound_source.specs.WellFormed.{Instantiates as BoundInstantiates}
 use Rattle.bound_source.specs.Modules.{Setting, Instantiates, IsTopBy}
 use Rattle.bound_source.specs.Binds.{Binds, BindsKind, BindsInstance, BindsModuleAt, item_instances}
-use Rattle.bound_laws.specs.Orders.{ReachesAreOrders}
 use Rattle.bound_laws.specs.Laws.{OrdersLeaveNoRing}
 use Rattle.bound_laws.proofs.Lists.{Pairs, got_contains, contains_got, got_within, got_pairs, flat_got, zip_right, zip_length, distinct_fit}
 use Rattle.bound_laws.proofs.Pieces.{instance_item}
@@ -124,13 +123,3 @@ orders_leave_no_ring setting bound order binds is = record { rank = λ at. place
 pub top_one : (setting : Setting) (name : Option (List ℕ)) (a b : ℕ) → IsTopBy setting name a → IsTopBy setting name b → a ≡ b
 top_one setting (Some name) a b g h = means_one setting name a b g h
 top_one setting None a b g h = h.1 a g.0
-
-pub reaches_are_orders : ReachesAreOrders
-reaches_are_orders setting top reached order top_is r = record {
-  each = λ at. (
-    λ c. record { top = top; top_is = top_is; reaches = (r.order_is at).0 c },
-    λ h. (r.order_is at).1 (subst (λ (t : ℕ). hierarchy.IsReached setting.modules t at) (top_one setting setting.top h.top top h.top_is top_is) h.reaches),
-  );
-  once = r.once;
-  after = λ place inner l holds. r.after place inner l (λ ring. r.ring_is (get_or order place 0) ((r.order_is (get_or order place 0)).0 (Contains-get_or order place 0 l)) ring) holds;
-}

@@ -4,4 +4,3 @@ pub mod Orders
 pub mod Laws
 pub mod Single
 pub mod Refusals
-pub mod Hierarchy

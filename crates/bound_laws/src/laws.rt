@@ -1,7 +1,6 @@
 //! The law and its parts.
 
 ghost use Rattle.bound_laws.specs.Laws.{PortsAreNarrow, RangesAreSmall, AssignsFit, InstancesFit, OrdersLeaveNoRing, PortBitsAreDistinct, BoundIsWellFormed, BoundIsOne};
-ghost use Rattle.bound_laws.specs.Orders.{ReachesAreOrders};
 ghost use Rattle.bound_laws.specs.Refusals.{FaultIsOne};
 
 use small_numbers::numbers_are_small;
@@ -32,11 +31,6 @@ pub fn instances_fit()
 /// Modules that have an order, each behind all that it instantiates, have no ring.
 pub fn orders_leave_no_ring()
     ensures { OrdersLeaveNoRing }
-{}
-
-/// The order in which the top's modules are reached is such an order, where none of them lies on a ring.
-pub fn reaches_are_orders()
-    ensures { ReachesAreOrders }
 {}
 
 /// No two bits of the top's ports have one printed name.

@@ -1,4 +1,5 @@
--- When a source cannot be bound: one predicate for each cause, over the site where it stands.
+-- When a source cannot be bound: one predicate for each cause, over the site where it stands. The causes that need no other module stand in
+-- verilog_sites: Refused.antt and Again.antt.
 use Rattle.std.specs.Prelude.{◌≡◌, ◌≢◌, ◌⊎◌, ℕ, Bool, ◌<◌, List, [], ◌∷◌, length, slice_get, Option, Some, None}
 use Rattle.std.specs.List.{All, AllPairs, AllZip, Contains}
 use Rattle.verilog_tree.specs.Trees.{Module, Expr, Links, Ordered as OrderedLinks}

@@ -15,41 +15,41 @@ use thiserror::Error;
 pub enum BindFault {
     /// Two modules, a module and a cell, or within a module two ports, two wires or two instances have this name, given twice; or two bits
     /// of the top's ports have this printed name.
-    #[error("duplicate")]
+    #[error("duplicate {first} {second}", first = .0.as_str(), second = .1.as_str())]
     DuplicateName(Name, Name),
     /// No module has the name of the top, or each module is instantiated.
     #[error("no top")]
     NoTop,
     /// Two modules that no module instantiates.
-    #[error("two tops")]
+    #[error("two tops {first} {second}", first = .0.as_str(), second = .1.as_str())]
     TwoTops(Name, Name),
     /// The kind of an instance is neither a module nor a cell.
-    #[error("no module")]
+    #[error("no module {name}", name = .0.as_str())]
     NoSuchModule(Name),
     /// Modules that instantiate each other in a ring, from the first in text order on, each instantiating the next.
     #[error("recursive")]
     Recursive(List<Name>),
     /// A listed port has no direction, a direction no listed port, or a link by name no such port.
-    #[error("port")]
+    #[error("port {name}", name = .0.as_str())]
     UnknownPort(Name),
     /// A port is linked twice by name.
-    #[error("port twice")]
+    #[error("port twice {name}", name = .0.as_str())]
     PortTwice(Name),
     /// More links by order, the first number, than ports, the second.
     #[error("too many {0} {1}")]
     TooMany(u64, u64),
     /// An assign, or a select in a link, uses a name that is neither declared nor made by an instance's link.
-    #[error("no name")]
+    #[error("no name {name}", name = .0.as_str())]
     NoSuchName(Name),
     /// A select outside the range of its name or against its direction, or from a scalar; or a port that is declared as a wire of another
     /// range.
-    #[error("range")]
+    #[error("range {name}", name = .0.as_str())]
     Range(Name),
     /// The width in bits of a link's expression or of an assign's right side, and that of the port or of the left side.
     #[error("width {0} {1}")]
     Width(u64, u64),
     /// A port that is wider than 4,096 bits, by its width.
-    #[error("width {0}")]
+    #[error("limit width {0}")]
     WidthLimit(u64),
     /// Memory could not be had, or a list has 2^32 items or more.
     #[error("out of memory")]

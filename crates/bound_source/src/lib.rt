@@ -2,7 +2,7 @@
 //!
 //! [`Bound`] is what a source comes to under a cell table and a top, as the relation in `specs/Binds.antt` says; what is well formed stands in
 //! `specs/WellFormed.antt`. When a source cannot be bound, and which [`BindFault`] is answered, stands in `specs/Faults.antt` and
-//! `specs/First.antt`.
+//! `specs/First.antt`; the causes that need no other module stand in `specs/Refused.antt` and `specs/Again.antt` of `verilog_sites`.
 #![tactic(auto)]
 
 mod bound;

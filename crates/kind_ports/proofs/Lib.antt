@@ -1,3 +1,4 @@
+pub mod Every
 pub mod Meanings
 pub mod Places
 pub mod Zips
@@ -5,3 +6,6 @@ pub mod Made
 pub mod Ports
 pub mod Directions
 pub mod Heads
+pub mod Behind
+pub mod Passed
+pub mod Laid

@@ -1,2 +1,3 @@
-pub mod Design
+pub mod Meanings
 pub mod Ports
+pub mod Design

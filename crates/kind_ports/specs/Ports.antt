@@ -1,15 +1,18 @@
 -- The ports of kinds, as callers look them up.
-use Rattle.std.specs.Prelude.{◌≡◌, ℕ, List, length, slice_get, Option, Some}
+use Rattle.std.specs.Prelude.{◌≡◌, ℕ, Bool, List, length, slice_get, Option, Some, None}
 use Rattle.std.specs.Option.{option_map}
 use Rattle.rsfq_ids.specs.declared.table.CellTable.{CellTable}
 use Rattle.verilog_tree.specs.Trees.{Module}
-use Rattle.verilog_sites.specs.Sites.{sites}
+use Rattle.verilog_sites.specs.Sites.{Site, sites}
+use Rattle.verilog_sites.specs.Selects.{width_of}
+use Rattle.verilog_sites.specs.Scope.{IsPort}
 use Rattle.module_scope.specs.declared.scope.Scope.{Scope}
 use Rattle.module_scope.specs.Scoped.{IsFirstDouble}
 use Rattle.module_tree.specs.declared.kinds.Meaning.{Meaning}
 use Rattle.module_tree.specs.Names.{IsFirstPlace}
 use Rattle.module_tree.specs.Modules.{Means}
 use Rattle.bound_source.specs.Modules.{Setting, HasPorts}
+use Rattle.bound_source.specs.Faults.{PortWidth}
 
 -- how many ports a kind has
 abbrev pub HasPortCount : Setting → List ℕ → ℕ → Type 0
@@ -22,6 +25,15 @@ HasPortPlace setting kind name place = (names : List (List ℕ)) × HasPorts set
 -- the name of the port at a place of a kind
 abbrev pub HasPortAt : Setting → List ℕ → ℕ → List ℕ → Type 0
 HasPortAt setting kind place name = (names : List (List ℕ)) × HasPorts setting kind names × (slice_get names place ≡ Some name)
+
+-- the width of the port at a place of a kind
+abbrev pub HasWidthAt : Setting → List ℕ → ℕ → ℕ → Type 0
+HasWidthAt setting kind place width = (name : List ℕ) × HasPortAt setting kind place name × PortWidth setting kind name width
+
+-- the width of a name among these sites by a direction of it, or that it has none
+abbrev pub IsWidthOf : List Site → List ℕ → Option ℕ → Type 0
+IsWidthOf all name None = (output : Bool) (range : Option (ℕ × ℕ)) → ¬ IsPort all name output range
+IsWidthOf all name (Some width) = (output : Bool) × (range : Option (ℕ × ℕ)) × IsPort all name output range × (width ≡ width_of range)
 
 -- the names in a module hold the first name that is given twice
 abbrev pub HasFirstDouble : Module → Scope → Type 0

@@ -2,7 +2,8 @@
 
 use first_names::FirstNames;
 use module_scope::Scope;
-use module_tree::Kinds;
+use module_tree::{Kinds, Meaning};
+use rsfq_ids::list::List;
 use rsfq_ids::table::CellTable;
 use verilog_tree::Source;
 
@@ -19,4 +20,16 @@ pub struct Design<'d, 'a> {
     pub scopes: &'d [Scope<'d, 'a>],
     /// The ports of each module by their names, with their places in the head.
     pub ports: &'d [FirstNames<'a>],
+    /// What the kind at each site of each module means; at a site without a kind anything.
+    pub meanings: &'d [List<Option<Meaning>>],
+    /// The widths of the ports of each module, in port order; `None` for a port without a direction.
+    pub widths: &'d [List<Option<u64>>],
+}
+
+/// The name of a kind, with what it means: the first module of that name or, where no module has it, the first cell. `None` where neither has
+/// it.
+#[derive(Clone, Copy, Debug)]
+pub struct KindName<'k> {
+    pub name: &'k str,
+    pub meaning: Option<Meaning>,
 }

@@ -1,6 +1,7 @@
 //! The modules of a text with the names in each, and what the ports of the kinds of instances are.
 //!
-//! [`sites_of`], [`scopes_of`] and [`ports_of`] make the lists of a [`Design`]; its methods say what a kind means and what its ports are.
+//! [`sites_of`], [`scopes_of`], [`ports_of`], [`meanings_of`] and [`widths_of`] make the lists of a [`Design`]; its methods say what the kind at a
+//! site means and what the ports of a kind are. None of them looks up the name of a kind or, by its place, that of a port.
 #![tactic(auto)]
 
 mod design;
@@ -8,10 +9,14 @@ mod kinds;
 mod laws;
 mod make;
 mod pins;
+mod sited;
+mod widths;
 
-pub use design::Design;
+pub use design::{Design, KindName};
 pub use laws::{kinds_are_one, ports_are_one};
 pub use make::{ports_of, scopes_of, sites_of};
+pub use sited::meanings_of;
+pub use widths::widths_of;
 
 #[cfg(test)]
 mod tests;

@@ -1,6 +1,6 @@
 //! The ports of a module's head and of a cell, by their places.
 
-ghost use Rattle.std.specs.Prelude.{◌≡◌, ◌↔◌, length, slice_get, Some, IsTrue};
+ghost use Rattle.std.specs.Prelude.{◌≡◌, ◌↔◌, ◌<◌, ◌≤◌, length, slice_get, Some, IfSome, IfNone, IsTrue};
 ghost use Rattle.std.specs.Option.{option_copied};
 ghost use Rattle.verilog_tree.specs.Views.{view_head, view_port};
 ghost use Rattle.verilog_sites.specs.Sites.{port_names, listed_port};
@@ -78,6 +78,18 @@ pub fn cell_count(row: &CellRow) -> usize
     match &row.clock {
         None => inputs + outputs,
         Some(_) => inputs + 1 + outputs,
+    }
+}
+
+/// The width of the pin at a place of a cell.
+pub fn pin_width(row: &CellRow, place: usize) -> Option<u64>
+    ensures found { IfSome result (λ width. (width ≡ 1) × (place < length (cell_ports row.now))) }
+    ensures none { IfNone result (length (cell_ports row.now) ≤ place) }
+{
+    if place < cell_count(row) {
+        Some(1)
+    } else {
+        None
     }
 }
 

@@ -5,7 +5,7 @@ use Rattle.std.proofs.lemmas.List.{length-map}
 use Rattle.verilog_tree.specs.Trees as tree
 use Rattle.verilog_sites.specs.Sites.{operands, Site, Module, Listed, Port, Wire, Assign, Instance, Named, Ordered, Assigned, Linked, is_output, port_sites, full_sites, head_sites, assign_sites, linked_sites, named_sites, ordered_sites, link_sites, instance_sites, item_sites, sites}
 use Rattle.link_faults.specs.Widths.{operand_count, link_count}
-use Rattle.link_faults.proofs.Every.{Every, every_both, every_weaker, every_map}
+use Rattle.kind_ports.proofs.Every.{Every, every_both, every_weaker, every_map}
 
 -- a site without two sides
 abbrev pub IsPlain : Site → Type 0

@@ -1,7 +1,6 @@
 pub mod Lookups
 pub mod Unknown
 pub mod More
-pub mod Every
 pub mod Followed
 pub mod Used
 pub mod Sums

@@ -1,5 +1,5 @@
 -- Where names have one range, what stands at a site has one width.
-use Rattle.std.proofs.Common.{◌≡◌, inl, inr, ℕ, ◌+◌, ◌-◌, ◌<◌, nat_le, Bool, true, false, List, [], ◌∷◌, Option, Some, None, IfSome, IfNone, length, sum, refl, sym, ◌∙◌, ap, subst, arith, rules}
+use Rattle.std.proofs.Common.{◌≡◌, inl, inr, ℕ, ◌+◌, ◌-◌, ◌<◌, nat_le, Bool, true, false, List, [], ◌∷◌, Option, Some, None, IfNone, length, sum, refl, sym, ◌∙◌, ap, subst, arith, rules}
 use Rattle.std.specs.Bool.{if◌then◌else◌}
 use Rattle.std.specs.Prelude.{slice_get}
 use Rattle.std.specs.List.{AllZip}
@@ -10,10 +10,10 @@ use Rattle.verilog_sites.specs.Selects.{width_of, index_at, Selects}
 use Rattle.verilog_sites.specs.Scope.{IsPort, IsKnown, HasRange, AsPort, AsWire, AsLinked, SelectWidth, OperandWidth, ExprWidth}
 use Rattle.module_scope.specs.Scoped.{HasNoDouble, RangesAreOne}
 use Rattle.module_tree.specs.declared.kinds.Meaning.TheVariants as meaning
-use Rattle.bound_source.specs.Modules.{Setting, MeansModule, HasPorts}
+use Rattle.bound_source.specs.Modules.{Setting, MeansModule}
 use Rattle.bound_source.specs.Faults.{HasSites, PortWidth, OfModulePort, OfPin}
-use Rattle.kind_ports.specs.Ports.{KindsAreOne, PortsAreOne, HasPortAt}
-use Rattle.link_faults.specs.Widths.{HasSelected, LinkWidth, PlaceWidth, IsWidths}
+use Rattle.kind_ports.specs.Ports.{KindsAreOne, PortsAreOne, HasWidthAt}
+use Rattle.link_faults.specs.Widths.{HasSelected, LinkWidth, IsWidths}
 use Rattle.link_faults.proofs.Lookups.{some_same, one_list}
 
 -- ---- selects
@@ -93,7 +93,7 @@ module _ (one_kind : KindsAreOne) (one_range : RangesAreOne) (setting : Setting)
   one_port name a b (OfPin row means is) (OfModulePort at all output range means_too has port is_too) = absurd (means.0 at means_too.0)
   one_port name a b (OfPin row means is) (OfPin row_too means_too is_too) = is ∙ sym is_too
 
-  one_place : PortsAreOne → (place a b : ℕ) → PlaceWidth setting kind place a → PlaceWidth setting kind place b → a ≡ b
+  one_place : PortsAreOne → (place a b : ℕ) → HasWidthAt setting kind place a → HasWidthAt setting kind place b → a ≡ b
   one_place one_ports place a b g h =
       let ports : g.1.0 ≡ h.1.0 = one_ports setting kind g.1.0 h.1.0 g.1.1 h.1.1 in
       let name : g.0 ≡ h.0 = some_same (sym g.1.2 ∙ ap (λ (l : List (List ℕ)). slice_get l place) ports ∙ h.1.2) in
@@ -128,20 +128,3 @@ pub select_none : RangesAreOne → (all : List Site) (name : List ℕ) (range : 
     → IfNone r ((count : ℕ) → ¬ HasSelected range wanted count) → IfNone r ((w : ℕ) → ¬ SelectWidth all name (Some wanted) w)
 select_none one_range all name range wanted (Some count) single has h = tt
 select_none one_range all name range wanted None single has h = λ w wide. h w (selected one_range all single name range wanted w has wide)
-
-pub place_found : (setting : Setting) (kind name : List ℕ) (place : ℕ) (r : Option ℕ) → HasPortAt setting kind place name → IfSome r (PortWidth setting kind name) → IfSome r (PlaceWidth setting kind place)
-place_found setting kind name place None there h = tt
-place_found setting kind name place (Some w) there h = (name, there, h)
-
-pub place_none : PortsAreOne → (setting : Setting) (kind name : List ℕ) (place : ℕ) (r : Option ℕ) → HasPortAt setting kind place name → IfNone r ((w : ℕ) → ¬ PortWidth setting kind name w)
-    → IfNone r ((w : ℕ) → ¬ PlaceWidth setting kind place w)
-place_none one_ports setting kind name place (Some w) there h = tt
-place_none one_ports setting kind name place None there h = λ w other.
-    let ports : other.1.0 ≡ there.0 = one_ports setting kind other.1.0 there.0 other.1.1 there.1 in
-    let same : other.0 ≡ name = some_same (sym other.1.2 ∙ ap (λ (l : List (List ℕ)). slice_get l place) ports ∙ there.2) in
-    h w (subst (λ (n : List ℕ). PortWidth setting kind n w) same other.2)
-
-pub past_ports : (setting : Setting) (kind : List ℕ) (place : ℕ) → ((names : List (List ℕ)) → HasPorts setting kind names → slice_get names place ≡ None) → (w : ℕ) → ¬ PlaceWidth setting kind place w
-past_ports setting kind place none = λ w has. never (sym (none has.1.0 has.1.1) ∙ has.1.2) where
-  never : {A : Type 0} {a : A} → None ≡ Some a → ⊥
-  never e = cc

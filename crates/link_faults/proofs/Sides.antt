@@ -16,7 +16,7 @@ use Rattle.link_faults.specs.Sited.{InModule}
 use Rattle.link_faults.specs.Widths.{AreSingle, IsWidths, operand_count, both}
 use Rattle.link_faults.proofs.Lookups.{one_list, one_site, no_site}
 use Rattle.link_faults.proofs.Followed.{followed}
-use Rattle.link_faults.proofs.Every.{every_at}
+use Rattle.kind_ports.proofs.Every.{every_at}
 use Rattle.link_faults.proofs.Used.{HasInstances, IsUsed, used}
 use Rattle.link_faults.proofs.OneWidth.{IsSingleKind, IsSingleSite, one_widths}
 

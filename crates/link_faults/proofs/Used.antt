@@ -3,7 +3,7 @@ use Rattle.std.proofs.Common.{ℕ, ◌<◌, List, [], ◌∷◌, ◌++◌, map, 
 use Rattle.std.specs.List.{flat_map, enumerate_from, Contains}
 use Rattle.verilog_tree.specs.Trees as tree
 use Rattle.verilog_sites.specs.Sites.{Site, Module, Listed, Port, Wire, Assign, Instance, Named, Ordered, Assigned, Linked, operands, is_output, head_sites, assign_sites, linked_sites, named_sites, ordered_sites, link_sites, instance_sites, item_sites, sites}
-use Rattle.link_faults.proofs.Every.{Every, every_both, every_weaker, every_map, every_flat}
+use Rattle.kind_ports.proofs.Every.{Every, every_both, every_weaker, every_map, every_flat}
 use Rattle.link_faults.proofs.Followed.{IsPlain, linked_plain, head_plain}
 
 -- an item has instances of a kind

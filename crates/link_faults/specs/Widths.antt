@@ -10,7 +10,7 @@ use Rattle.verilog_sites.specs.Scope.{OperandWidth, ExprWidth}
 use Rattle.module_scope.specs.Scoped.{HasNoDouble}
 use Rattle.bound_source.specs.Modules.{Setting}
 use Rattle.bound_source.specs.Faults.{HasSites, HasReachedSites, PortWidth}
-use Rattle.kind_ports.specs.Ports.{HasPortAt}
+use Rattle.kind_ports.specs.Ports.{HasWidthAt}
 
 -- the module at a place of the text has fewer than 2^32 sites
 abbrev pub FitsSites : Setting → ℕ → Type 0
@@ -38,15 +38,11 @@ abbrev pub LinkWidth : List Site → Option Expr → ℕ → Type 0
 LinkWidth all None width = ⊥
 LinkWidth all (Some expr) width = ExprWidth all expr width
 
--- the width of the port at a place of a kind
-abbrev pub PlaceWidth : Setting → List ℕ → ℕ → ℕ → Type 0
-PlaceWidth setting kind place width = (name : List ℕ) × HasPortAt setting kind place name × PortWidth setting kind name width
-
 -- the widths of the two sides at a site
 abbrev pub IsWidths : Setting → List Site → Site → ℕ → ℕ → Type 0
 IsWidths setting all (Assign to from) have want = ExprWidth all from have × ExprWidth all to want
 IsWidths setting all (Named kind name expr) have want = LinkWidth all expr have × PortWidth setting kind name want
-IsWidths setting all (Ordered kind place expr) have want = LinkWidth all expr have × PlaceWidth setting kind place want
+IsWidths setting all (Ordered kind place expr) have want = LinkWidth all expr have × HasWidthAt setting kind place want
 IsWidths setting all _ have want = ⊥
 
 -- how many operands a link's expression has

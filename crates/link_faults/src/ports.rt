@@ -8,10 +8,12 @@ ghost use Rattle.verilog_sites.specs.View.{view_site};
 ghost use Rattle.module_scope.specs.Scoped.{IsScope, sites_of};
 ghost use Rattle.bound_source.specs.Faults.{IsUnknownPort, HasTooMany};
 ghost use Rattle.kind_ports.specs.Design.{IsDesign, setting_of};
+ghost use Rattle.kind_ports.specs.Meanings.{IsMeant, IsMeantAt};
 ghost use Rattle.link_faults.specs.Sited.{InModule, LacksPort, IsNoPort, HasMore, HasMoreLinks, HasMoreAt};
 
-use kind_ports::{Design, ports_are_one};
+use kind_ports::{Design, KindName, ports_are_one};
 use module_scope::Scope;
+use module_tree::Meaning;
 use verilog_sites::Site;
 use verilog_tree::Links;
 
@@ -24,24 +26,32 @@ pub fn unknown_port<'a>(design: &Design<'_, 'a>, at: usize, site: usize) -> Opti
 {
     let scope = design.scopes.get(at)?;
     let here = scope.sites.get(site)?;
-    unknown_at(design, scope, here)
+    unknown_at(design, scope, here, design.meaning_at(at, site))
 }
 
-/// The name of a port that there is not, at one site.
+/// The name of a port that there is not, at one site, given what the kind there means.
 fn unknown_at<'a>(
     design: &Design<'_, 'a>,
     scope: &Scope<'_, 'a>,
     site: &Site<'a>,
+    meaning: Option<Meaning>,
 ) -> Option<&'a str>
     requires design { IsDesign design.now }
     requires scope { IsScope scope.now }
+    requires meant { IsMeantAt (setting_of design.now) (view_site site.now) meaning }
     ensures found { IfSome result (λ name. LacksPort (setting_of design.now) (sites_of scope.now) (view_site site.now) name.now) }
     ensures none { IfNone result ((name : List ℕ) → ¬ LacksPort (setting_of design.now) (sites_of scope.now) (view_site site.now) name) }
 {
     match *site {
         Site::Listed(name) => without_direction(scope, name),
         Site::Port { name, .. } => without_listing(scope, name),
-        Site::Named { kind, port, .. } => without_port(design, kind, port),
+        Site::Named { kind, port, .. } => {
+            let kind = KindName {
+                name: kind,
+                meaning,
+            };
+            without_port(design, kind, port)
+        }
         _ => None,
     }
 }
@@ -71,10 +81,11 @@ fn without_listing<'a>(scope: &Scope<'_, 'a>, name: &'a str) -> Option<&'a str>
 }
 
 /// The name, where a kind that is a module or a cell has no such port.
-fn without_port<'a>(design: &Design<'_, 'a>, kind: &str, name: &'a str) -> Option<&'a str>
-    requires { IsDesign design.now }
-    ensures found { IfSome result (λ found. (name.entry.now ≡ found.now) × IsNoPort (setting_of design.now) kind.now name.entry.now) }
-    ensures none { IfNone result (¬ IsNoPort (setting_of design.now) kind.now name.entry.now) }
+fn without_port<'a>(design: &Design<'_, 'a>, kind: KindName<'_>, name: &'a str) -> Option<&'a str>
+    requires design { IsDesign design.now }
+    requires meant { IsMeant (setting_of design.now) kind }
+    ensures found { IfSome result (λ found. (name.entry.now ≡ found.now) × IsNoPort (setting_of design.now) kind.entry.name.now name.entry.now) }
+    ensures none { IfNone result (¬ IsNoPort (setting_of design.now) kind.entry.name.now name.entry.now) }
 {
     ports_are_one();
     design.port_count(kind)?;
@@ -93,26 +104,35 @@ pub fn too_many(design: &Design<'_, '_>, at: usize, site: usize) -> Option<(u64,
 {
     let scope = design.scopes.get(at)?;
     let here = scope.sites.get(site)?;
-    more_at(design, here)
+    more_at(design, here, design.meaning_at(at, site))
 }
 
-/// The number of links by order of the instance at one site, and that of the ports of its kind, where there are more links.
-fn more_at(design: &Design<'_, '_>, site: &Site<'_>) -> Option<(u64, u64)>
-    requires { IsDesign design.now }
+/// The number of links by order of the instance at one site, and that of the ports of its kind, where there are more links, given what the
+/// kind means.
+fn more_at(design: &Design<'_, '_>, site: &Site<'_>, meaning: Option<Meaning>) -> Option<(u64, u64)>
+    requires design { IsDesign design.now }
+    requires meant { IsMeantAt (setting_of design.now) (view_site site.now) meaning }
     ensures found { IfSome result (λ counts. HasMoreAt (setting_of design.now) (view_site site.now) counts.0 counts.1) }
     ensures none { IfNone result ((have want : ℕ) → ¬ HasMoreAt (setting_of design.now) (view_site site.now) have want) }
 {
     match *site {
-        Site::Instance { kind, links, .. } => more_links(design, kind, links),
+        Site::Instance { kind, links, .. } => {
+            let kind = KindName {
+                name: kind,
+                meaning,
+            };
+            more_links(design, kind, links)
+        }
         _ => None,
     }
 }
 
 /// The number of links by order, and that of the ports of a kind, where there are more links.
-fn more_links(design: &Design<'_, '_>, kind: &str, links: &Links) -> Option<(u64, u64)>
-    requires { IsDesign design.now }
-    ensures found { IfSome result (λ counts. HasMoreLinks (setting_of design.now) kind.now (view_links links.now) counts.0 counts.1) }
-    ensures none { IfNone result ((have want : ℕ) → ¬ HasMoreLinks (setting_of design.now) kind.now (view_links links.now) have want) }
+fn more_links(design: &Design<'_, '_>, kind: KindName<'_>, links: &Links) -> Option<(u64, u64)>
+    requires design { IsDesign design.now }
+    requires meant { IsMeant (setting_of design.now) kind }
+    ensures found { IfSome result (λ counts. HasMoreLinks (setting_of design.now) kind.entry.name.now (view_links links.now) counts.0 counts.1) }
+    ensures none { IfNone result ((have want : ℕ) → ¬ HasMoreLinks (setting_of design.now) kind.entry.name.now (view_links links.now) have want) }
 {
     match links {
         Links::Named(_) => None,
@@ -121,10 +141,11 @@ fn more_links(design: &Design<'_, '_>, kind: &str, links: &Links) -> Option<(u64
 }
 
 /// A number, and that of the ports of a kind, where the first is greater.
-fn more_than_ports(design: &Design<'_, '_>, kind: &str, have: usize) -> Option<(u64, u64)>
-    requires { IsDesign design.now }
-    ensures found { IfSome result (λ counts. (counts.0 ≡ have) × HasMore (setting_of design.now) kind.now counts.0 counts.1) }
-    ensures none { IfNone result ((want : ℕ) → ¬ HasMore (setting_of design.now) kind.now have want) }
+fn more_than_ports(design: &Design<'_, '_>, kind: KindName<'_>, have: usize) -> Option<(u64, u64)>
+    requires design { IsDesign design.now }
+    requires meant { IsMeant (setting_of design.now) kind }
+    ensures found { IfSome result (λ counts. (counts.0 ≡ have) × HasMore (setting_of design.now) kind.entry.name.now counts.0 counts.1) }
+    ensures none { IfNone result ((want : ℕ) → ¬ HasMore (setting_of design.now) kind.entry.name.now have want) }
 {
     ports_are_one();
     let want = design.port_count(kind)?;

@@ -7,7 +7,7 @@ ghost use Rattle.kind_ports.specs.Design.{IsDesign, setting_of};
 ghost use Rattle.link_faults.specs.Widths.{AreSingle, FitsSites};
 
 use super::*;
-use kind_ports::{Design, ports_of, scopes_of, sites_of};
+use kind_ports::{Design, meanings_of, ports_of, scopes_of, sites_of, widths_of};
 use module_scope::Scope;
 use module_tree::{Kinds, named_top};
 use rsfq_ids::list::{List, NoMemory};
@@ -90,6 +90,8 @@ fn refused_in<'a>(
     let all = sites_of(alloc, source)?;
     let scopes = scopes_of(alloc, all.as_slice())?;
     let ports = ports_of(alloc, source)?;
+    let meanings = meanings_of(alloc, source, &kinds, all.as_slice())?;
+    let widths = widths_of(alloc, source, scopes.as_slice())?;
     let name = "m";
     let Some(at) = named_top(&kinds, name) else {
         return Ok(format!(in alloc; "no top")?);
@@ -101,6 +103,8 @@ fn refused_in<'a>(
         kinds: &kinds,
         scopes: scopes.as_slice(),
         ports: ports.as_slice(),
+        meanings: meanings.as_slice(),
+        widths: widths.as_slice(),
     };
     if are_single(design.scopes) && fits(&design, at) {
         refused(alloc, &design, at, site)

@@ -11,11 +11,13 @@ ghost use Rattle.module_scope.specs.Scoped.{IsScope, HasNoDouble, sites_of};
 ghost use Rattle.bound_source.specs.Modules.{IsReached};
 ghost use Rattle.bound_source.specs.Faults.{HasWidths};
 ghost use Rattle.kind_ports.specs.Design.{IsDesign, setting_of};
+ghost use Rattle.kind_ports.specs.Meanings.{IsMeantAt};
 ghost use Rattle.link_faults.specs.Sited.{InModule};
-ghost use Rattle.link_faults.specs.Widths.{FitsSites, AreSingle, HasSelected, HaveWidth, all_operands, LinkWidth, link_count, PlaceWidth, IsWidths, operand_count, both};
+ghost use Rattle.link_faults.specs.Widths.{FitsSites, AreSingle, HasSelected, HaveWidth, all_operands, LinkWidth, link_count, IsWidths, operand_count, both};
 
-use kind_ports::{Design, kinds_are_one, ports_are_one};
+use kind_ports::{Design, KindName, kinds_are_one, ports_are_one};
 use module_scope::{Scope, ranges_are_one, select, width_of};
+use module_tree::Meaning;
 use verilog_sites::Site;
 use verilog_tree::Expr;
 
@@ -46,7 +48,7 @@ pub fn width(design: &Design<'_, '_>, at: usize, site: usize) -> Option<(u64, u6
     kinds_are_one();
     let scope = design.scopes.get(at)?;
     let here = scope.sites.get(site)?;
-    unless_same(widths_at(design, scope, here)?)
+    unless_same(widths_at(design, scope, here, design.meaning_at(at, site))?)
 }
 
 /// Two widths, where they are not the same.
@@ -61,10 +63,16 @@ fn unless_same(widths: (u64, u64)) -> Option<(u64, u64)>
     }
 }
 
-/// The widths of the two sides at one site.
-fn widths_at(design: &Design<'_, '_>, scope: &Scope<'_, '_>, site: &Site<'_>) -> Option<(u64, u64)>
+/// The widths of the two sides at one site, given what the kind there means.
+fn widths_at(
+    design: &Design<'_, '_>,
+    scope: &Scope<'_, '_>,
+    site: &Site<'_>,
+    meaning: Option<Meaning>,
+) -> Option<(u64, u64)>
     requires design { IsDesign design.now }
     requires scope { IsScope scope.now }
+    requires meant { IsMeantAt (setting_of design.now) (view_site site.now) meaning }
     requires single { HasNoDouble (sites_of scope.now) (length (sites_of scope.now)) }
     requires few { operand_count (view_site site.now) < 2 ^ 32 }
     ensures found { IfSome result (λ widths. IsWidths (setting_of design.now) (sites_of scope.now) (view_site site.now) widths.0 widths.1) }
@@ -73,10 +81,18 @@ fn widths_at(design: &Design<'_, '_>, scope: &Scope<'_, '_>, site: &Site<'_>) ->
     match *site {
         Site::Assign { to, from } => both(expr_width(scope, from), expr_width(scope, to)),
         Site::Named { kind, port, expr } => {
+            let kind = KindName {
+                name: kind,
+                meaning,
+            };
             both(link_width(scope, expr), design.port_width(kind, port))
         }
         Site::Ordered { kind, place, expr } => {
-            both(link_width(scope, expr), place_width(design, kind, place))
+            let kind = KindName {
+                name: kind,
+                meaning,
+            };
+            both(link_width(scope, expr), design.width_at(kind, place))
         }
         _ => None,
     }
@@ -90,17 +106,6 @@ fn both(one: Option<u64>, other: Option<u64>) -> Option<(u64, u64)>
         (Some(one), Some(other)) => Some((one, other)),
         _ => None,
     }
-}
-
-/// The width of the port at a place of a kind.
-fn place_width(design: &Design<'_, '_>, kind: &str, place: usize) -> Option<u64>
-    requires { IsDesign design.now }
-    ensures found { IfSome result (PlaceWidth (setting_of design.now) kind.now place) }
-    ensures none { IfNone result ((width : ℕ) → ¬ PlaceWidth (setting_of design.now) kind.now place width) }
-{
-    ports_are_one();
-    let name = design.port_at(kind, place)?;
-    design.port_width(kind, name)
 }
 
 /// The width of a link's expression, where it has one.

@@ -2,11 +2,13 @@
 
 ghost use Rattle.std.specs.Prelude.{◌≡◌, ◌+◌, ◌<◌, length, take, IfOk, OnOk};
 ghost use Rattle.std.specs.List.{AllZip, flat_map, filter_map};
+ghost use Rattle.bound_source.specs.Faults.{HasSites};
 ghost use Rattle.bound_source.specs.Binds.{BindsInstance, item_instances};
 ghost use Rattle.verilog_tree.specs.Trees.{Module};
 ghost use Rattle.verilog_tree.specs.Views.{view_links};
 ghost use Rattle.verilog_sites.specs.Sites.{sites, Instance};
 ghost use Rattle.verilog_sites.specs.Scope.{Stands};
+ghost use Rattle.kind_ports.specs.Meanings.{IsMeant};
 ghost use Rattle.module_wires.specs.Fitting.{IsSound};
 ghost use Rattle.module_wires.specs.Listed.{instance_of, AreSites};
 ghost use Rattle.module_wires.specs.Numbered.{IsWires, sites_in};
@@ -14,6 +16,7 @@ ghost use Rattle.module_binding.specs.Sound.{IsBinder, setting_in, IsSoundModule
 
 use crate::binder::Binder;
 use bound_source::BoundInstance;
+use kind_ports::KindName;
 use module_wires::{Wires, instances_are_sites};
 use rsfq_ids::list::{List, NoMemory};
 use rsfq_ids::name::Name;
@@ -22,31 +25,34 @@ use verilog_sites::Site;
 use verilog_tree::Links;
 
 impl Binder<'_, '_> {
-    /// The instances of a module, in text order.
+    /// The instances of the module at a place of the text, in text order.
     pub(crate) fn instances(
         &self,
         alloc: Global,
         wires: &Wires<'_, '_>,
+        place: usize,
     ) -> Result<List<BoundInstance>, NoMemory>
         requires binder { IsBinder self.now }
         requires wires { IsWires wires.now }
         requires sound { IsSoundModule (setting_in self.now) self.now.places.now (sites_in wires.now) }
         requires sites { AreSites (sites_in wires.now) }
+        requires has { HasSites (setting_in self.now) place (sites_in wires.now) }
         ensures { IfOk result (λ bound. (owner : Module) → sites_in wires.now ≡ sites owner → AllZip (BindsInstance (setting_in self.now) self.now.places.now wires.now.list) (flat_map item_instances owner.items) bound) }
     {
         instances_are_sites();
         let mut bound = List::new(alloc);
         for at in 0..wires.sites.len() {
-            self.add_instance(alloc, wires, at, &mut bound)?;
+            self.add_instance(alloc, wires, place, at, &mut bound)?;
         }
         Ok(bound)
     }
 
-    /// Adds the instance at a place, if one stands there. The place is the next one.
+    /// Adds the instance at a site of the module at a place of the text, if one stands there. The site is the next one.
     fn add_instance(
         &self,
         alloc: Global,
         wires: &Wires<'_, '_>,
+        place: usize,
         at: usize,
         bound: &mut List<BoundInstance>,
     ) -> Result<(), NoMemory>
@@ -54,12 +60,17 @@ impl Binder<'_, '_> {
         requires wires { IsWires wires.now }
         requires sound { IsSoundModule (setting_in self.now) self.now.places.now (sites_in wires.now) }
         requires sites { AreSites (sites_in wires.now) }
+        requires has { HasSites (setting_in self.now) place (sites_in wires.now) }
         requires there { at < length (sites_in wires.now) }
         requires before { AllZip (BindsInstance (setting_in self.now) self.now.places.now wires.now.list) (filter_map instance_of (take at (sites_in wires.now))) bound.old }
         ensures { OnOk result (AllZip (BindsInstance (setting_in self.now) self.now.places.now wires.now.list) (filter_map instance_of (take (at + 1) (sites_in wires.now))) bound.new) }
     {
         match wires.sites[at] {
             Site::Instance { kind, name, links } => {
+                let kind = KindName {
+                    name: kind,
+                    meaning: self.design.meaning_at(place, at),
+                };
                 bound.push(self.bind_instance(alloc, wires, kind, name, links)?)
             }
             _ => Ok(()),
@@ -71,7 +82,7 @@ impl Binder<'_, '_> {
         &self,
         alloc: Global,
         wires: &Wires<'_, '_>,
-        kind: &str,
+        kind: KindName<'_>,
         name: &str,
         links: &Links,
     ) -> Result<BoundInstance, NoMemory>
@@ -79,8 +90,9 @@ impl Binder<'_, '_> {
         requires wires { IsWires wires.now }
         requires sound { IsSoundModule (setting_in self.now) self.now.places.now (sites_in wires.now) }
         requires sites { AreSites (sites_in wires.now) }
-        requires stands { Stands (sites_in wires.now) (Instance kind.now name.now (view_links links.now)) }
-        ensures { IfOk result (BindsInstance (setting_in self.now) self.now.places.now wires.now.list (kind.now, record { name = name.now; links = view_links links.now })) }
+        requires meant { IsMeant (setting_in self.now) kind }
+        requires stands { Stands (sites_in wires.now) (Instance kind.name.now name.now (view_links links.now)) }
+        ensures { IfOk result (BindsInstance (setting_in self.now) self.now.places.now wires.now.list (kind.entry.name.now, record { name = name.now; links = view_links links.now })) }
     {
         instances_are_sites();
         let meant = self.bind_kind(kind)?;

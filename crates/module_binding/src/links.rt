@@ -7,13 +7,14 @@ ghost use Rattle.bound_source.specs.Binds.{BindsNamed, BindsOrdered, BindsLinks,
 ghost use Rattle.verilog_tree.specs.Trees.{Expr};
 ghost use Rattle.verilog_tree.specs.Views.{view_expr, view_named, view_optional, view_links};
 ghost use Rattle.verilog_sites.specs.Sites.{operands};
+ghost use Rattle.kind_ports.specs.Meanings.{IsMeant};
 ghost use Rattle.module_wires.specs.Fitting.{IsSound, IsUsed};
 ghost use Rattle.module_wires.specs.Numbered.{IsWires, sites_in};
 ghost use Rattle.module_binding.specs.Sound.{IsBinder, setting_in, HasPort, IsSoundNamed, IsSoundOrdered, AreSoundLinks, AddsNamed, AddsOrdered};
 
 use crate::binder::Binder;
 use bound_source::BoundLink;
-use kind_ports::ports_are_one;
+use kind_ports::{KindName, ports_are_one};
 use module_wires::Wires;
 use rsfq_ids::list::{List as Items, NoMemory};
 use std::alloc::Global;
@@ -25,14 +26,15 @@ impl Binder<'_, '_> {
         &self,
         alloc: Global,
         wires: &Wires<'_, '_>,
-        kind: &str,
+        kind: KindName<'_>,
         links: &Links,
     ) -> Result<Items<BoundLink>, NoMemory>
         requires binder { IsBinder self.now }
+        requires meant { IsMeant (setting_in self.now) kind }
         requires wires { IsWires wires.now }
         requires sound { IsSound (sites_in wires.now) }
-        requires links { AreSoundLinks (setting_in self.now) (sites_in wires.now) kind.now (view_links links.now) }
-        ensures { IfOk result (λ bound. (names : List (List ℕ)) → HasPorts (setting_in self.now) kind.now names → BindsLinks names wires.now.list (view_links links.now) bound) }
+        requires links { AreSoundLinks (setting_in self.now) (sites_in wires.now) kind.name.now (view_links links.now) }
+        ensures { IfOk result (λ bound. (names : List (List ℕ)) → HasPorts (setting_in self.now) kind.entry.name.now names → BindsLinks names wires.now.list (view_links links.now) bound) }
     {
         match links {
             Links::Named(links) => self.bind_named(alloc, wires, kind, links.as_slice()),
@@ -45,14 +47,15 @@ impl Binder<'_, '_> {
         &self,
         alloc: Global,
         wires: &Wires<'_, '_>,
-        kind: &str,
+        kind: KindName<'_>,
         links: &[NamedLink],
     ) -> Result<Items<BoundLink>, NoMemory>
         requires binder { IsBinder self.now }
+        requires meant { IsMeant (setting_in self.now) kind }
         requires wires { IsWires wires.now }
         requires sound { IsSound (sites_in wires.now) }
-        requires links { All (IsSoundNamed (setting_in self.now) (sites_in wires.now) kind.now) (map view_named links.now) }
-        ensures { IfOk result (λ bound. (names : List (List ℕ)) → HasPorts (setting_in self.now) kind.now names → AllZip (BindsNamed names wires.now.list) (named_exprs (map view_named links.now)) bound) }
+        requires links { All (IsSoundNamed (setting_in self.now) (sites_in wires.now) kind.name.now) (map view_named links.now) }
+        ensures { IfOk result (λ bound. (names : List (List ℕ)) → HasPorts (setting_in self.now) kind.entry.name.now names → AllZip (BindsNamed names wires.now.list) (named_exprs (map view_named links.now)) bound) }
     {
         let mut bound = Items::new(alloc);
         for link in links {
@@ -66,15 +69,16 @@ impl Binder<'_, '_> {
         &self,
         alloc: Global,
         wires: &Wires<'_, '_>,
-        kind: &str,
+        kind: KindName<'_>,
         link: &NamedLink,
         bound: &mut Items<BoundLink>,
     ) -> Result<(), NoMemory>
         requires binder { IsBinder self.now }
+        requires meant { IsMeant (setting_in self.now) kind }
         requires wires { IsWires wires.now }
         requires sound { IsSound (sites_in wires.now) }
-        requires link { IsSoundNamed (setting_in self.now) (sites_in wires.now) kind.now (view_named link.now) }
-        ensures { OnOk result (AddsNamed (setting_in self.now) kind.now wires.now.list (view_named link.now) bound.old bound.new) }
+        requires link { IsSoundNamed (setting_in self.now) (sites_in wires.now) kind.name.now (view_named link.now) }
+        ensures { OnOk result (AddsNamed (setting_in self.now) kind.entry.name.now wires.now.list (view_named link.now) bound.old bound.new) }
     {
         match &link.expr {
             None => Ok(()),
@@ -89,16 +93,17 @@ impl Binder<'_, '_> {
         &self,
         alloc: Global,
         wires: &Wires<'_, '_>,
-        kind: &str,
+        kind: KindName<'_>,
         name: &str,
         expr: &Tree,
     ) -> Result<BoundLink, NoMemory>
         requires binder { IsBinder self.now }
+        requires meant { IsMeant (setting_in self.now) kind }
         requires wires { IsWires wires.now }
         requires sound { IsSound (sites_in wires.now) }
-        requires port { HasPort (setting_in self.now) kind.now name.now }
+        requires port { HasPort (setting_in self.now) kind.name.now name.now }
         requires used { All (IsUsed (sites_in wires.now)) (operands (view_expr expr.now)) }
-        ensures { IfOk result (λ link. (names : List (List ℕ)) → HasPorts (setting_in self.now) kind.now names → BindsNamed names wires.now.list (name.now, view_expr expr.now) link) }
+        ensures { IfOk result (λ link. (names : List (List ℕ)) → HasPorts (setting_in self.now) kind.entry.name.now names → BindsNamed names wires.now.list (name.now, view_expr expr.now) link) }
     {
         ports_are_one();
         let Some(port) = self.design.port_place(kind, name) else {

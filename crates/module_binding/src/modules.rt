@@ -85,7 +85,7 @@ impl Binder<'_, '_> {
         };
         let wires = Wires::of(alloc, scope)?;
         let assigns = wires.assigns(alloc)?;
-        let instances = self.instances(alloc, &wires)?;
+        let instances = self.instances(alloc, &wires, at)?;
         let (ports, wires) = wires.into_parts();
         Ok(BoundModule {
             name: Name::of(alloc, owner.name.as_str())?,

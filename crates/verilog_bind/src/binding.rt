@@ -17,7 +17,7 @@ ghost use Rattle.bind_faults.specs.Design.{IsTold};
 use bind_faults::find_fault;
 use bound_laws::laws::{bound_is_one, bound_is_well_formed};
 use bound_source::{BindFault, Bound};
-use kind_ports::{Design, ports_of, scopes_of, sites_of};
+use kind_ports::{Design, meanings_of, ports_of, scopes_of, sites_of, widths_of};
 use module_binding::bind_modules;
 use module_tree::Kinds;
 use rsfq_ids::table::CellTable;
@@ -67,6 +67,8 @@ pub fn bind<'a>(
     let sites = sites_of(alloc, source)?;
     let scopes = scopes_of(alloc, sites.as_slice())?;
     let ports = ports_of(alloc, source)?;
+    let meanings = meanings_of(alloc, source, &kinds, sites.as_slice())?;
+    let widths = widths_of(alloc, source, scopes.as_slice())?;
     let design = Design {
         source,
         cells,
@@ -74,6 +76,8 @@ pub fn bind<'a>(
         kinds: &kinds,
         scopes: scopes.as_slice(),
         ports: ports.as_slice(),
+        meanings: meanings.as_slice(),
+        widths: widths.as_slice(),
     };
     bind_design(alloc, &design)
 }

@@ -132,7 +132,7 @@ fn sources_are_bound(rt: HostRuntime) -> Result<(), Fail> {
         (
             "module c(input i,output o);assign o=i;endmodule module dead(input i);wire w,w;x z();endmodule module t(input i,output o);b q(.o(o),.i(i));c r(i,);endmodule module b(output o,input i);c s(.i(i),.o());DFF f(i,,o);endmodule",
             None,
-            "two tops",
+            "two tops dead t",
         ),
         (
             "module t(input a,output y);DFF d(.q(y),.clk(),.a(a));endmodule",
@@ -169,13 +169,13 @@ fn tops_and_kinds_are_found(rt: HostRuntime) -> Result<(), Fail> {
         (
             "module i(input [3:0] a,input \\a[3] );endmodule module t;i u(,w);endmodule",
             Some("i"),
-            "duplicate",
+            "duplicate a[3] a[3]",
         ),
         ("module t();endmodule", None, "t; / top 0"),
         // Faults.
         ("", None, "no top"),
         ("module t;endmodule", Some("DFF"), "no top"),
-        ("module m; SFQ u(); endmodule", None, "no module"),
+        ("module m; SFQ u(); endmodule", None, "no module SFQ"),
         (
             "module t;c u();endmodule module a;b u();endmodule module b;c u();endmodule module c;a u();endmodule",
             None,
@@ -184,13 +184,13 @@ fn tops_and_kinds_are_found(rt: HostRuntime) -> Result<(), Fail> {
         (
             "module m(a, \\a[1] ); input [1:0] a; input \\a[1] ; endmodule",
             None,
-            "duplicate",
+            "duplicate a[1] a[1]",
         ),
-        ("module t;DFF u(.d(w));input z;endmodule", None, "port"),
+        ("module t;DFF u(.d(w));input z;endmodule", None, "port d"),
         (
             "module m; JTL j(.a(a), .a(b)); JTL k(a, b, c); endmodule",
             None,
-            "port twice",
+            "port twice a",
         ),
         (
             "module m(input [1:0] a, output y); JTL j(a[2], y); JTL k(a, y, y); endmodule",
@@ -208,13 +208,13 @@ fn tops_and_kinds_are_found(rt: HostRuntime) -> Result<(), Fail> {
 #[test]
 fn names_and_widths_are_refused(rt: HostRuntime) -> Result<(), Fail> {
     let table: [(&str, Option<&str>, &str); 8] = [
-        ("module t;assign p=q;endmodule", None, "no name"),
+        ("module t;assign p=q;endmodule", None, "no name p"),
         (
             "module t(output y);assign y=w[0];JTL u(w);endmodule",
             None,
-            "range",
+            "range w",
         ),
-        ("module t(input [0:0] a);wire a;endmodule", None, "range"),
+        ("module t(input [0:0] a);wire a;endmodule", None, "range a"),
         (
             "module m(input [1:0] a, output y); JTL j(a, y); endmodule",
             None,
@@ -233,7 +233,7 @@ fn names_and_widths_are_refused(rt: HostRuntime) -> Result<(), Fail> {
         (
             "module t(a,b);input [5000:0] b;input [4096:0] a;endmodule",
             None,
-            "width 4097",
+            "limit width 4097",
         ),
         (
             "module t(input [4096:1] a);endmodule",

@@ -9,13 +9,15 @@ pub returns-in-Some-clause-found : goal.returns-in-Some-clause-found
 returns-in-Some-clause-found c =
     let sites = c.args.scope.now.sites.now in
     unknown_is (setting_of c.args.design.now) (sites_of c.args.scope.now) c.args.site (view_site (get_or sites c.args.site c.index-scope-site.result)) (site_read sites c.args.site c.index-scope-site.result c.requires.there)
-    c.in-Some.kind.now c.unless_kind.result c.in-Some.ensures c.unless_kind.ensures.found
+    c.in-Some.name.now c.meaning_at.result c.unless_kind.result c.in-Some.ensures
+    (c.meaning_at.ensures (sites_of c.args.scope.now) (view_site (get_or sites c.args.site c.index-scope-site.result)) c.requires.sites (site_read sites c.args.site c.index-scope-site.result c.requires.there)) c.unless_kind.ensures.found
 
 pub returns-in-Some-clause-none : goal.returns-in-Some-clause-none
 returns-in-Some-clause-none c =
     let sites = c.args.scope.now.sites.now in
     known_none (setting_of c.args.design.now) (sites_of c.args.scope.now) c.args.site (view_site (get_or sites c.args.site c.index-scope-site.result)) (site_read sites c.args.site c.index-scope-site.result c.requires.there)
-    c.in-Some.kind.now c.unless_kind.result c.in-Some.ensures c.unless_kind.ensures.none
+    c.in-Some.name.now c.meaning_at.result c.unless_kind.result c.in-Some.ensures
+    (c.meaning_at.ensures (sites_of c.args.scope.now) (view_site (get_or sites c.args.site c.index-scope-site.result)) c.requires.sites (site_read sites c.args.site c.index-scope-site.result c.requires.there)) c.unless_kind.ensures.none
 
 pub returns-in-None-clause-none : goal.returns-in-None-clause-none
 returns-in-None-clause-none c =

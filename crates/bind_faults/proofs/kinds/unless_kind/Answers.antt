@@ -1,7 +1,11 @@
-use Rattle.std.proofs.Common.{inl, inr, refl}
+use Rattle.std.proofs.Common.{inl, inr, refl, subst, List, ℕ, Option, None}
+use Rattle.module_tree.specs.declared.kinds.Meaning.{Meaning}
+use Rattle.kind_ports.specs.Meanings.{KindMeans}
+use Rattle.bind_faults.proofs.KindNames.{is_kind, no_kind}
 use Rattle.bind_faults.proofs.kinds.unless_kind.Goals as goal
 
+pub returns-in-Some-clause-none : goal.returns-in-Some-clause-none
+returns-in-Some-clause-none c = λ setting meant. is_kind setting c.args.kind.name.now c.in-Some.field-0 (subst (λ (m : Option Meaning). KindMeans setting c.args.kind.name.now m) c.in-Some.is meant)
+
 pub returns-in-None-clause-found : goal.returns-in-None-clause-found
-returns-in-None-clause-found c =
-    let none = c.in-None.ensures in
-    (refl, λ kind. elim kind [ inl m ↦ none.0 m.0 m.1 | inr r ↦ none.1 r.0 r.1 ])
+returns-in-None-clause-found c = (refl, λ setting meant. no_kind setting c.args.kind.name.now (subst (λ (m : Option Meaning). KindMeans setting c.args.kind.name.now m) c.in-None.is meant))

@@ -8,5 +8,5 @@ returns-in_err-want-clause-none c = rw c.from_residual.ensures (λ want more. c.
 
 pub returns-else-want-have-clause-none : goal.returns-else-want-have-clause-none
 returns-else-want-have-clause-none c = λ want more.
-    let same : want ≡ c.in_ok-want.want = one_count c.ports_are_one.ensures (setting_of c.args.design.now) c.args.kind.now want c.in_ok-want.want more.0 c.in_ok-want.ensures.found in
+    let same : want ≡ c.in_ok-want.want = one_count c.ports_are_one.ensures (setting_of c.args.design.now) c.args.kind.name.now want c.in_ok-want.want more.0 c.in_ok-want.ensures.found in
     omega (arith, same, more.1)

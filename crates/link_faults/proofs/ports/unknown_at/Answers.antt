@@ -7,6 +7,7 @@ use Rattle.module_scope.specs.Scoped.{sites_of}
 use Rattle.kind_ports.specs.Design.{setting_of}
 use Rattle.link_faults.specs.Sited.{LacksPort}
 use Rattle.link_faults.proofs.Unknown.{named_found, named_none}
+use Rattle.kind_ports.specs.Meanings.{IsMeantAt}
 use Rattle.link_faults.proofs.ports.unknown_at.Goals as goal
 
 pub returns-in-Named-clause-found : goal.returns-in-Named-clause-found
@@ -22,3 +23,6 @@ returns-in-Named-clause-none c =
     let all = sites_of c.args.scope.now in
     subst (λ (s : Site). IfNone c.without_port.result ((name : List ℕ) → ¬ LacksPort setting all (view_site s) name)) (sym c.in-Named.is)
     (named_none setting all c.in-Named.kind.now c.in-Named.port.now (view_optional (option_copied c.in-Named.expr)) c.without_port.result c.without_port.ensures.none)
+
+pub without_port-requires-clause-meant : goal.without_port-requires-clause-meant
+without_port-requires-clause-meant c = subst (λ (s : Site). IsMeantAt (setting_of c.args.design.now) (view_site s) c.args.meaning) c.in-Named.is c.requires.meant

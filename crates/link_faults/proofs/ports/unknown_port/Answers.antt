@@ -43,3 +43,13 @@ returns-clause-none c =
     let here = c.in_ok-here.ensures.lookup in
     let there = site_there scope.sites.now c.args.site c.in_ok-here.here.now here.3.0 here.1 in
     unknown_none (setting_of design) c.args.at c.args.site (sites_of scope) (view_site c.in_ok-here.here.now) c.unknown_at.result has there c.unknown_at.ensures.none
+
+pub unknown_at-requires-clause-meant : goal.unknown_at-requires-clause-meant
+unknown_at-requires-clause-meant c =
+    let design = c.args.design.now in
+    let scope = c.in_ok-scope.scope.now in
+    let found = c.in_ok-scope.ensures.lookup in
+    let has = has_sites (setting_of design) design.scopes.now c.args.at scope c.requires.scopes found.3.0 found.1 in
+    let here = c.in_ok-here.ensures.lookup in
+    let there = site_there scope.sites.now c.args.site c.in_ok-here.here.now here.3.0 here.1 in
+    c.meaning_at.ensures (sites_of scope) (view_site c.in_ok-here.here.now) has there

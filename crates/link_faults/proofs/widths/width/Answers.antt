@@ -82,3 +82,13 @@ returns-clause-none c =
     let there = site_there scope.sites.now c.args.site c.in_ok-here.here.now here.3.0 here.1 in
     differ_none c.kinds_are_one.ensures c.ports_are_one.ensures c.ranges_are_one.ensures setting c.args.at c.args.site (sites_of scope) site c.in_ok-widths_at.field-0 c.unless_same.result c.requires.reached c.requires.single has there
     c.in_ok-widths_at.ensures.found c.unless_same.ensures.none
+
+pub widths_at-requires-clause-meant : goal.widths_at-requires-clause-meant
+widths_at-requires-clause-meant c =
+    let design = c.args.design.now in
+    let scope = c.in_ok-scope.scope.now in
+    let found = c.in_ok-scope.ensures.lookup in
+    let has = has_sites (setting_of design) design.scopes.now c.args.at scope c.requires.design.scopes found.3.0 found.1 in
+    let here = c.in_ok-here.ensures.lookup in
+    let there = site_there scope.sites.now c.args.site c.in_ok-here.here.now here.3.0 here.1 in
+    c.meaning_at.ensures (sites_of scope) (view_site c.in_ok-here.here.now) has there

@@ -8,7 +8,9 @@ use Rattle.verilog_sites.specs.View.{view_site}
 use Rattle.module_scope.specs.Scoped.{sites_of}
 use Rattle.bound_source.specs.Faults.{PortWidth}
 use Rattle.kind_ports.specs.Design.{setting_of}
-use Rattle.link_faults.specs.Widths.{LinkWidth, PlaceWidth, IsWidths, operand_count}
+use Rattle.kind_ports.specs.Meanings.{IsMeantAt}
+use Rattle.kind_ports.specs.Ports.{HasWidthAt}
+use Rattle.link_faults.specs.Widths.{LinkWidth, IsWidths, operand_count}
 use Rattle.link_faults.proofs.Sides.{both_found, both_none, other}
 use Rattle.link_faults.proofs.widths.widths_at.Goals as goal
 
@@ -67,11 +69,17 @@ returns-in-Ordered-clause-found c =
     let setting = setting_of c.args.design.now in
     let all = sites_of c.args.scope.now in
     subst (λ (s : Site). IfSome c.both-in-Ordered.result (λ w. IsWidths setting all (view_site s) w.0 w.1)) (sym c.in-Ordered.is)
-    (both_found (LinkWidth all (view_optional (option_copied c.in-Ordered.expr))) (PlaceWidth setting c.in-Ordered.kind.now c.in-Ordered.place) c.link_width-in-Ordered.result c.place_width.result c.both-in-Ordered.result c.both-in-Ordered.ensures c.link_width-in-Ordered.ensures.found c.place_width.ensures.found)
+    (both_found (LinkWidth all (view_optional (option_copied c.in-Ordered.expr))) (HasWidthAt setting c.in-Ordered.kind.now c.in-Ordered.place) c.link_width-in-Ordered.result c.width_at.result c.both-in-Ordered.result c.both-in-Ordered.ensures c.link_width-in-Ordered.ensures.found c.width_at.ensures.found)
 
 pub returns-in-Ordered-clause-none : goal.returns-in-Ordered-clause-none
 returns-in-Ordered-clause-none c =
     let setting = setting_of c.args.design.now in
     let all = sites_of c.args.scope.now in
     subst (λ (s : Site). IfNone c.both-in-Ordered.result ((have want : ℕ) → ¬ IsWidths setting all (view_site s) have want)) (sym c.in-Ordered.is)
-    (both_none (LinkWidth all (view_optional (option_copied c.in-Ordered.expr))) (PlaceWidth setting c.in-Ordered.kind.now c.in-Ordered.place) c.link_width-in-Ordered.result c.place_width.result c.both-in-Ordered.result c.both-in-Ordered.ensures c.link_width-in-Ordered.ensures.none c.place_width.ensures.none)
+    (both_none (LinkWidth all (view_optional (option_copied c.in-Ordered.expr))) (HasWidthAt setting c.in-Ordered.kind.now c.in-Ordered.place) c.link_width-in-Ordered.result c.width_at.result c.both-in-Ordered.result c.both-in-Ordered.ensures c.link_width-in-Ordered.ensures.none c.width_at.ensures.none)
+
+pub port_width-requires-clause-meant : goal.port_width-requires-clause-meant
+port_width-requires-clause-meant c = subst (λ (s : Site). IsMeantAt (setting_of c.args.design.now) (view_site s) c.args.meaning) c.in-Named.is c.requires.meant
+
+pub width_at-requires-clause-meant : goal.width_at-requires-clause-meant
+width_at-requires-clause-meant c = subst (λ (s : Site). IsMeantAt (setting_of c.args.design.now) (view_site s) c.args.meaning) c.in-Ordered.is c.requires.meant

@@ -1,6 +1,7 @@
-use Rattle.std.proofs.Common.{Some}
+use Rattle.std.proofs.Common.{Some, None, rules}
 use Rattle.module_tree.specs.declared.kinds.Meaning.TheVariants as meaning
 use Rattle.module_tree.specs.Modules.{Means}
+use Rattle.module_scope.specs.Scoped.{sites_of}
 use Rattle.kind_ports.specs.Design.{IsScopeOf, setting_of}
 use Rattle.kind_ports.proofs.Ports.{matched, looked_up, found_in_first, module_width, module_no_width, pin_width, no_width}
 use Rattle.kind_ports.proofs.design.Design.port_width.Goals as goal
@@ -9,40 +10,40 @@ pub returns-in_err-get-in-Some-Module-clause-none : goal.returns-in_err-get-in-S
 returns-in_err-get-in-Some-Module-clause-none c =
     let setting = setting_of c.args.self.now in
     let at = c.in-Some-Module.at in
-    let means : Means setting.modules setting.table c.args.kind.now (Some (meaning.Module at)) = matched setting c.args.kind.now c.in-Some-Module.field-0 (meaning.Module at) c.in-Some-Module.field-0-is c.in-Some-Module.ensures in
-    absurd (found_in_first IsScopeOf setting.modules c.args.self.now.scopes.now at means.0.0 c.requires.scopes means.0.1 c.in_err-get-in-Some-Module.ensures.lookup.3)
+    let means : Means setting.modules setting.table c.args.kind.name.now (Some (meaning.Module at)) = matched setting c.args.kind.name.now c.args.kind.meaning (Some (meaning.Module at)) (search rules) c.requires.meant in
+    absurd (found_in_first IsScopeOf setting.modules c.args.self.now.scopes.now at means.0.0 c.requires.design.scopes means.0.1 c.in_err-get-in-Some-Module.ensures.lookup.3)
 
-pub port_range-requires : goal.port_range-requires
-port_range-requires c =
+pub name_width-requires : goal.name_width-requires
+name_width-requires c =
     let scope = c.in_ok-get-in-Some-Module.field-0.now in
     let found = c.in_ok-get-in-Some-Module.ensures.lookup in
-    (looked_up IsScopeOf (setting_of c.args.self.now).modules c.args.self.now.scopes.now c.in-Some-Module.at scope c.requires.scopes found.3.0 found.1).2.is_scope
+    (looked_up IsScopeOf (setting_of c.args.self.now).modules c.args.self.now.scopes.now c.in-Some-Module.at scope c.requires.design.scopes found.3.0 found.1).2.is_scope
 
-pub returns-in-Some-clause-found : goal.returns-in-Some-clause-found
-returns-in-Some-clause-found c =
+pub returns-in_ok-get-in-Some-Module-clause-found : goal.returns-in_ok-get-in-Some-Module-clause-found
+returns-in_ok-get-in-Some-Module-clause-found c =
     let setting = setting_of c.args.self.now in
     let at = c.in-Some-Module.at in
     let scope = c.in_ok-get-in-Some-Module.field-0.now in
     let found = c.in_ok-get-in-Some-Module.ensures.lookup in
-    let means : Means setting.modules setting.table c.args.kind.now (Some (meaning.Module at)) = matched setting c.args.kind.now c.in-Some-Module.field-0 (meaning.Module at) c.in-Some-Module.field-0-is c.in-Some-Module.ensures in
-    let owner = looked_up IsScopeOf setting.modules c.args.self.now.scopes.now at scope c.requires.scopes found.3.0 found.1 in
-    rw c.width_of.ensures (module_width setting c.args.kind.now c.args.name.now at owner.0 scope c.in-Some.range means owner.1 owner.2 c.in-Some.ensures.found)
+    let means : Means setting.modules setting.table c.args.kind.name.now (Some (meaning.Module at)) = matched setting c.args.kind.name.now c.args.kind.meaning (Some (meaning.Module at)) (search rules) c.requires.meant in
+    let owner = looked_up IsScopeOf setting.modules c.args.self.now.scopes.now at scope c.requires.design.scopes found.3.0 found.1 in
+    module_width setting c.args.kind.name.now c.args.name.now at owner.0 (sites_of scope) c.name_width.result means owner.1 owner.2.sites_are c.name_width.ensures
 
-pub returns-in-None-port_range-clause-none : goal.returns-in-None-port_range-clause-none
-returns-in-None-port_range-clause-none c =
+pub returns-in_ok-get-in-Some-Module-clause-none : goal.returns-in_ok-get-in-Some-Module-clause-none
+returns-in_ok-get-in-Some-Module-clause-none c =
     let setting = setting_of c.args.self.now in
     let at = c.in-Some-Module.at in
     let scope = c.in_ok-get-in-Some-Module.field-0.now in
     let found = c.in_ok-get-in-Some-Module.ensures.lookup in
-    let means : Means setting.modules setting.table c.args.kind.now (Some (meaning.Module at)) = matched setting c.args.kind.now c.in-Some-Module.field-0 (meaning.Module at) c.in-Some-Module.field-0-is c.in-Some-Module.ensures in
-    let owner = looked_up IsScopeOf setting.modules c.args.self.now.scopes.now at scope c.requires.scopes found.3.0 found.1 in
-    module_no_width setting c.args.kind.now c.args.name.now at owner.0 scope means owner.1 owner.2 c.in-None-port_range.ensures.none
+    let means : Means setting.modules setting.table c.args.kind.name.now (Some (meaning.Module at)) = matched setting c.args.kind.name.now c.args.kind.meaning (Some (meaning.Module at)) (search rules) c.requires.meant in
+    let owner = looked_up IsScopeOf setting.modules c.args.self.now.scopes.now at scope c.requires.design.scopes found.3.0 found.1 in
+    module_no_width setting c.args.kind.name.now c.args.name.now at owner.0 (sites_of scope) c.name_width.result means owner.1 owner.2.sites_are c.name_width.ensures
 
 pub returns-in-Some-Cell-clause-found : goal.returns-in-Some-Cell-clause-found
 returns-in-Some-Cell-clause-found c =
     let setting = setting_of c.args.self.now in
     let row = c.in-Some-Cell.field-0-0 in
-    pin_width setting c.args.kind.now c.args.name.now row (matched setting c.args.kind.now c.in-Some-Cell.field-0 (meaning.Cell row) c.in-Some-Cell.field-0-is c.in-Some-Cell.ensures)
+    pin_width setting c.args.kind.name.now c.args.name.now row (matched setting c.args.kind.name.now c.args.kind.meaning (Some (meaning.Cell row)) (search rules) c.requires.meant)
 
 pub returns-in-None-clause-none : goal.returns-in-None-clause-none
-returns-in-None-clause-none c = no_width (setting_of c.args.self.now) c.args.kind.now c.args.name.now c.in-None.ensures
+returns-in-None-clause-none c = no_width (setting_of c.args.self.now) c.args.kind.name.now c.args.name.now (matched (setting_of c.args.self.now) c.args.kind.name.now c.args.kind.meaning None c.in-None.is c.requires.meant)

@@ -1,5 +1,6 @@
 use Rattle.verilog_tree.specs.Views.{view_links}
 use Rattle.verilog_sites.specs.declared.site.Site.TheVariants as code
+use Rattle.verilog_sites.specs.Sites.{Instance}
 use Rattle.module_wires.specs.Numbered.{sites_in}
 use Rattle.module_binding.specs.Sound.{setting_in}
 use Rattle.module_binding.proofs.Zips.{after}
@@ -19,3 +20,8 @@ returns-in_ok-bind_instance-in-Instance c =
 pub returns-in_default : goal.returns-in_default
 returns-in_default c =
     instance_none (setting_in c.args.self.now) c.args.self.now.places.now c.args.wires.now.list c.args.wires.now.sites.now c.args.at _ c.args.bound.now c.requires.there c.in_default.not-Instance c.requires.before
+
+pub bind_instance-requires-clause-meant : goal.bind_instance-requires-clause-meant
+bind_instance-requires-clause-meant c =
+    let there = read c.args.wires.now.sites.now c.args.at _ (code.Instance c.in-Instance.kind c.in-Instance.name c.in-Instance.links) c.requires.there c.in-Instance.is in
+    c.meaning_at.ensures (sites_in c.args.wires.now) (Instance c.in-Instance.kind.now c.in-Instance.name.now (view_links c.in-Instance.links.now)) c.requires.has there

@@ -10,11 +10,11 @@ bind_links-requires-clause-sound c = sound_names (setting_in c.args.self.now) c.
 
 pub bind_links-requires-clause-links : goal.bind_links-requires-clause-links
 bind_links-requires-clause-links c =
-    let ports = ports_of (setting_in c.args.self.now) c.args.self.now.places.now c.args.kind.now c.in_ok-meant.meant c.in_ok-meant.ensures in
-    sound_links c.instances_are_sites.ensures (sites_in c.args.wires.now) c.requires.sites c.args.kind.now c.args.name.now (setting_in c.args.self.now) c.args.self.now.places.now ports.0 (view_links c.args.links.now) c.requires.sound ports.1
+    let ports = ports_of (setting_in c.args.self.now) c.args.self.now.places.now c.args.kind.name.now c.in_ok-meant.meant c.in_ok-meant.ensures in
+    sound_links c.instances_are_sites.ensures (sites_in c.args.wires.now) c.requires.sites c.args.kind.name.now c.args.name.now (setting_in c.args.self.now) c.args.self.now.places.now ports.0 (view_links c.args.links.now) c.requires.sound ports.1
     c.requires.stands
 
 pub returns : goal.returns
 returns c =
-    let ports = ports_of (setting_in c.args.self.now) c.args.self.now.places.now c.args.kind.now c.in_ok-meant.meant c.in_ok-meant.ensures in
+    let ports = ports_of (setting_in c.args.self.now) c.args.self.now.places.now c.args.kind.name.now c.in_ok-meant.meant c.in_ok-meant.ensures in
     record { name = c.in_ok-of.ensures; kind = c.in_ok-meant.ensures; names = ports.0; ports = ports.1; links = c.in_ok-links.ensures ports.0 ports.1 }

@@ -53,6 +53,13 @@ instances-requires-clause-sound c =
     let are : sites_in c.in_ok-wires.wires ≡ sites (view_module c.in-Some.owner.now) = c.in_ok-wires.ensures.sites ∙ scope.sites_are in
     subst (λ (l : List Site). IsSoundModule (setting_in c.args.self.now) c.args.self.now.places.now l) (sym are) (c.requires.sound (view_module c.in-Some.owner.now) there)
 
+pub instances-requires-clause-has : goal.instances-requires-clause-has
+instances-requires-clause-has c =
+    let there : slice_get (setting_in c.args.self.now).modules c.args.at ≡ Some (view_module c.in-Some.owner.now)
+    = module_read view_module c.args.self.now.design.now.source.now.modules c.args.at c.get.result c.in-Some.owner c.get.ensures c.in-Some.is in
+    let scope = scope_read (setting_in c.args.self.now).modules c.args.self.now.design.now.scopes.now c.args.at (view_module c.in-Some.owner.now) c.in-Some-get.scope.now c.requires.binder.design.scopes there c.in-Some-get.ensures.lookup.1 in
+    record { owner = view_module c.in-Some.owner.now; there = there; sites_are = c.in_ok-wires.ensures.sites ∙ scope.sites_are }
+
 pub instances-requires-clause-sites : goal.instances-requires-clause-sites
 instances-requires-clause-sites c =
     let there : slice_get (setting_in c.args.self.now).modules c.args.at ≡ Some (view_module c.in-Some.owner.now)

@@ -5,4 +5,4 @@ use Rattle.module_binding.proofs.Linking.{NamedTo}
 use Rattle.module_binding.proofs.binder.Binder.bind_named.Given as goal
 
 abbrev pub invariant-loop-link : goal.invariant-loop-link
-invariant-loop-link l = NamedTo (setting_in l.self) l.kind l.wires.list (take l.link-index (map view_named l.links)) l.bound
+invariant-loop-link l = NamedTo (setting_in l.self) l.kind.name.now l.wires.list (take l.link-index (map view_named l.links)) l.bound

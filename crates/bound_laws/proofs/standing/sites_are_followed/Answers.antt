@@ -1,5 +1,0 @@
-use Rattle.bound_laws.proofs.Follows.{sites_are_followed}
-use Rattle.bound_laws.proofs.standing.sites_are_followed.Goals as goal
-
-pub returns : goal.returns
-returns c = sites_are_followed
