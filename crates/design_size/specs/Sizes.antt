@@ -2,8 +2,8 @@
 use Rattle.std.specs.Prelude.{◌≡◌, ℕ, ◌<◌, ◌≤◌, ◌↔◌, IsTrue, min, List, length, slice_get, Some}
 use Rattle.bound_source.specs.declared.bound.Bound.{Bound}
 use Rattle.design_size.specs.declared.size.Size.{Size}
-use Rattle.design_size.specs.declared.limits.LimitFault.{LimitFault}
-use Rattle.design_size.specs.declared.limits.LimitFault.TheVariants.{Nesting, Cells, Wires, Memory}
+use Rattle.design_size.specs.declared.limits.SizeFault.{SizeFault}
+use Rattle.design_size.specs.declared.limits.SizeFault.TheVariants.{Nesting, Cells, Wires, Memory}
 use Rattle.design_size.specs.Hierarchy.{IsDeeper, cell_count, bit_count}
 
 -- The size of a module, as deep as so many levels: whether modules lie deeper, and how many cells and wire bits are inside, where the counts go no further than one past their limits.
@@ -24,7 +24,7 @@ pub record IsWithinLimits (bound : Bound) : Type 0 where
   pub wires : bit_count bound 64 bound.top ≤ 2000000
 
 -- Which limit is passed first: that of the nesting, the cells, the wire bits, and the first number that passes it. Want of memory is free.
-abbrev pub PassesLimit : Bound → LimitFault → Type 0
+abbrev pub PassesLimit : Bound → SizeFault → Type 0
 PassesLimit bound (Nesting count) = (count ≡ 65) × IsDeeper bound 64 bound.top
 PassesLimit bound (Cells count) = (count ≡ 100001) × (¬ IsDeeper bound 64 bound.top) × (100000 < cell_count bound 64 bound.top)
 PassesLimit bound (Wires count) =

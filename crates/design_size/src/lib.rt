@@ -7,7 +7,7 @@
 mod limits;
 mod size;
 
-pub use limits::{LimitFault, measure};
+pub use limits::{SizeFault, measure};
 pub use size::{Size, width};
 
 #[cfg(test)]

@@ -3,7 +3,7 @@
 ghost use Rattle.std.specs.Prelude.{◌≡◌, ◌<◌, length, IfOk, IfErr, OnOk};
 ghost use Rattle.design_size.specs.Hierarchy.{HasModules};
 ghost use Rattle.design_size.specs.Sizes.{AreSizes, IsWithinLimits, PassesLimit};
-ghost use Rattle.design_size.specs.declared.limits.LimitFault.TheVariants.{Memory};
+ghost use Rattle.design_size.specs.declared.limits.SizeFault.TheVariants.{Memory};
 
 use crate::size::{Size, sizes_of};
 use bound_source::Bound;
@@ -13,7 +13,7 @@ use thiserror::Error;
 
 /// Which limit a circuit passes, and the first number that passes it. They are looked at in this order.
 #[derive(Clone, Copy, Debug, PartialEq, Eq, Error)]
-pub enum LimitFault {
+pub enum SizeFault {
     /// Modules lie deeper than 64 levels, the top being level 1.
     #[error("nesting {0}")]
     Nesting(u64),
@@ -28,11 +28,11 @@ pub enum LimitFault {
     Memory,
 }
 
-impl From<NoMemory> for LimitFault {
+impl From<NoMemory> for SizeFault {
     ghost from_gives = { λ _ e. e ≡ Memory };
 
-    fn from(_error: NoMemory) -> LimitFault {
-        LimitFault::Memory
+    fn from(_error: NoMemory) -> SizeFault {
+        SizeFault::Memory
     }
 }
 
@@ -44,7 +44,7 @@ impl From<NoMemory> for LimitFault {
 ///
 /// `Nesting(65)`, `Cells(100001)`, `Wires(2000001)` exactly where that limit is passed and none before it. `Memory` where
 /// memory could not be had.
-pub fn measure(alloc: Global, bound: &Bound) -> Result<Vec<Size>, LimitFault>
+pub fn measure(alloc: Global, bound: &Bound) -> Result<Vec<Size>, SizeFault>
     requires modules { HasModules bound.now }
     requires top { bound.now.top < length bound.now.modules }
     ensures within { OnOk result (IsWithinLimits bound.now) }
@@ -54,13 +54,13 @@ pub fn measure(alloc: Global, bound: &Bound) -> Result<Vec<Size>, LimitFault>
     let sizes = sizes_of(alloc, bound)?;
     let size = sizes[bound.top as usize];
     if size.deep {
-        return Err(LimitFault::Nesting(65));
+        return Err(SizeFault::Nesting(65));
     }
     if size.cells > 100_000 {
-        return Err(LimitFault::Cells(size.cells));
+        return Err(SizeFault::Cells(size.cells));
     }
     if size.bits > 2_000_000 {
-        return Err(LimitFault::Wires(size.bits));
+        return Err(SizeFault::Wires(size.bits));
     }
     Ok(sizes)
 }

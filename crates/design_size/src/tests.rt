@@ -4,7 +4,7 @@ ghost use Rattle.design_size.specs.Hierarchy.{HasModules, module_of};
 ghost use Rattle.design_size.specs.Rounds.{AreBelow};
 ghost use Rattle.bound_source.specs.declared.bound.BoundModule.{BoundModule};
 
-use super::{LimitFault, measure};
+use super::{SizeFault, measure};
 use bound_source::{Bound, BoundInstance, BoundKind, BoundModule, BoundWire};
 use rsfq_ids::list::{List, NoMemory};
 use rsfq_ids::name::Name;
@@ -112,10 +112,10 @@ fn measured(
     assert!(rt; (bound.top as usize) < bound.modules.len());
     Ok(match measure(alloc, &bound) {
         Ok(_) => (0, 0),
-        Err(LimitFault::Nesting(count)) => (1, count),
-        Err(LimitFault::Cells(count)) => (2, count),
-        Err(LimitFault::Wires(count)) => (3, count),
-        Err(LimitFault::Memory) => (4, 0),
+        Err(SizeFault::Nesting(count)) => (1, count),
+        Err(SizeFault::Cells(count)) => (2, count),
+        Err(SizeFault::Wires(count)) => (3, count),
+        Err(SizeFault::Memory) => (4, 0),
     })
 }
 

@@ -1,14 +1,12 @@
 //! An order of the cells, each after the cell that it reads from.
 
-ghost use Rattle.std.specs.Prelude.{◌≡◌, ◌+◌, ◌-◌, ◌<◌, ◌≤◌, ◌^◌, false, replicate, length, slice_get, slice_index_or, Some, None, IfOk, IfErr, OnOk};
+ghost use Rattle.std.specs.Prelude.{◌≡◌, ◌+◌, ◌-◌, ◌<◌, ◌≤◌, ◌^◌, false, replicate, length, slice_get, slice_index_or, Some, None, IfOk, IfSome, IfNone, OnOk};
 ghost use Rattle.rsfq_ids.specs.WellFormed.{IsFlat};
 ghost use Rattle.rsfq_ids.specs.Order.{IsOrder};
 ghost use Rattle.flat_form.specs.Table.{jtl_table};
 ghost use Rattle.flat_form.specs.Form.{HasNoRing};
 ghost use Rattle.flat_form.specs.Walking.{AreReaders, first_output, IsMarked, reach_seen, reach_order, IsWalk, IsServed, AreInputsServed, AreCellsServed, Grows, Extends, Comes, IsDone};
-ghost use Rattle.flat_form.specs.declared.fault.FormFault.TheVariants.{NotOfForm};
 
-use crate::fault::FormFault;
 use rsfq_ids::circuit::{Flat, Reader};
 use rsfq_ids::id::{CellId, Id, NetId};
 use rsfq_ids::list::{List, NoMemory};
@@ -158,22 +156,22 @@ fn no_marks(alloc: Global, count: usize) -> Result<Vec<bool>, NoMemory>
     Ok(marks)
 }
 
-/// The cells in an order in which each stands after the cell that it reads from. There is none exactly where JTLs form a ring.
+/// The cells in an order in which each stands after the cell that it reads from. `None` exactly where JTLs form a ring.
 pub(crate) fn find_order(
     alloc: Global,
     flat: &Flat,
     readers: &[Option<Reader>],
-) -> Result<List<CellId>, FormFault>
+) -> Result<Option<List<CellId>>, NoMemory>
     requires flat { IsFlat jtl_table flat.now }
     requires readers { AreReaders flat.now (length flat.now.pins) readers.now }
-    ensures ordered { IfOk result (λ order. IsOrder flat.now order) }
-    ensures ring { IfErr result (λ fault. fault ≡ NotOfForm → ¬ HasNoRing flat.now) }
+    ensures ordered { IfOk result (λ found. IfSome found (IsOrder flat.now)) }
+    ensures ring { IfOk result (λ found. IfNone found (¬ HasNoRing flat.now)) }
 {
     let mut seen = no_marks(alloc, flat.cells.len())?;
     let mut order = List::new(alloc);
     walk(flat, readers, seen.as_mut_slice(), &mut order)?;
     if order.len() < flat.cells.len() {
-        return Err(FormFault::NotOfForm);
+        return Ok(None);
     }
-    Ok(order)
+    Ok(Some(order))
 }

@@ -11,6 +11,4 @@ pub mod Wholes
 pub mod Driven
 pub mod Resolved
 pub mod Distinct
-pub mod Few
-pub mod Answered
 pub mod OneCircuit

@@ -14,8 +14,8 @@ use Rattle.rsfq_ids.specs.WellFormed.{drivers_of, readers_of}
 use Rattle.bound_source.specs.declared.bound.BoundModule.{BoundModule}
 use Rattle.bound_source.specs.declared.bound.Bound.{Bound}
 use Rattle.bound_source.specs.WellFormed.{IsBound}
-use Rattle.design_size.specs.declared.limits.LimitFault.{LimitFault}
-use Rattle.design_size.specs.declared.limits.LimitFault.TheVariants.{Nesting, Cells, Wires, Memory}
+use Rattle.design_size.specs.declared.limits.SizeFault.{SizeFault}
+use Rattle.design_size.specs.declared.limits.SizeFault.TheVariants.{Nesting, Cells, Wires, Memory}
 use Rattle.design_size.specs.Sizes.{IsWithinLimits, PassesLimit}
 use Rattle.flat_places.specs.Circuit.{IsCircuitOf, ReadsFromDriver}
 use Rattle.flat_places.specs.Drives.{Drives, ReadsAt}
@@ -103,7 +103,7 @@ one_circuit table bound is once one other a b = parts_same one other ports cells
 
 -- ---- no circuit
 
-pub limit_passed : (bound : Bound) (fault : LimitFault) → fault ≢ Memory → PassesLimit bound fault → IsWithinLimits bound → ⊥
+pub limit_passed : (bound : Bound) (fault : SizeFault) → fault ≢ Memory → PassesLimit bound fault → IsWithinLimits bound → ⊥
 limit_passed bound (Nesting count) free passed within = within.nesting passed.1
 limit_passed bound (Cells count) free passed within = let most = within.cells in let more = passed.2 in omega (arith, most, more)
 limit_passed bound (Wires count) free passed within = let most = within.wires in let more = passed.3 in omega (arith, most, more)

@@ -32,10 +32,6 @@ all_got {X} P xs k x all e = subst P (get_or_from_slice_get xs k x x e) (all k x
 abbrev pub instance_with : CellTable → Bound → ℕ → Option (List ℕ) → List ℕ → ℕ → BoundInstance → Piece
 instance_with table bound levels path offsets from instance = instance_piece table bound (inside_piece table bound levels) path offsets from instance.name instance.links instance.kind
 
-pub inside_none : (table : CellTable) (bound : Bound) (at : ℕ) (path : Option (List ℕ)) (offsets : List ℕ) (base : ℕ) → inside_piece table bound 0 at path offsets base ≡ empty
-unfolding inside_piece
-inside_none table bound at path offsets base = refl
-
 pub inside_more : (table : CellTable) (bound : Bound) (levels at : ℕ) (path : Option (List ℕ)) (offsets : List ℕ) (base : ℕ) → inside_piece table bound (suc levels) at path offsets base ≡
     joined (only_links (flat_map (assign_links offsets) (assigns_of bound at))) (pieces_from (instance_with table bound levels path offsets) base (instances_of bound at))
 unfolding inside_piece

@@ -3,4 +3,3 @@ pub mod Paths
 pub mod Pieces
 pub mod Numbered
 pub mod Whole
-pub mod Answers

@@ -6,8 +6,8 @@ ghost use Rattle.rsfq_ids.specs.declared.circuit.Flat.{Flat};
 ghost use Rattle.rsfq_ids.specs.declared.circuit.Reader.{Reader};
 ghost use Rattle.rsfq_ids.specs.WellFormed.{drivers_of, readers_of};
 ghost use Rattle.bound_source.specs.WellFormed.{IsBound};
-ghost use Rattle.design_size.specs.declared.limits.LimitFault.{LimitFault};
-ghost use Rattle.design_size.specs.declared.limits.LimitFault.TheVariants.{Memory};
+ghost use Rattle.design_size.specs.declared.limits.SizeFault.{SizeFault};
+ghost use Rattle.design_size.specs.declared.limits.SizeFault.TheVariants.{Memory};
 ghost use Rattle.design_size.specs.Sizes.{IsWithinLimits, PassesLimit};
 ghost use Rattle.flat_places.specs.Circuit.{IsCircuitOf};
 ghost use Rattle.flat_places.specs.Places.{Place};
@@ -29,7 +29,7 @@ pub fn circuits_are_one(cells: &CellTable, bound: &Bound)
 /// Each cause of a refusal but want of memory stands against what a circuit needs: a limit that is passed against the limits; a place's first two
 /// drivers, which are two, against one driver; a ring that is named against there being none; and the first reader that nothing drives against each circuit.
 pub fn refused_have_none(cells: &CellTable, bound: &Bound)
-    ensures limit { (fault : LimitFault) → fault ≢ Memory → PassesLimit bound.now fault → ¬ IsWithinLimits bound.now }
+    ensures limit { (fault : SizeFault) → fault ≢ Memory → PassesLimit bound.now fault → ¬ IsWithinLimits bound.now }
     ensures two { (flat : Flat) (place : Place) (one other : Driver) → IsFirstTwo cells.now bound.now (drivers_of cells.now flat) place one other → ¬ HasOneDriver cells.now bound.now place }
     ensures ring { (ring : List Place) → IsNamedRing bound.now ring → IsRing bound.now ring }
     ensures undriven { (shape : Flat) → IsShapeOf bound.now shape → (by : Reader) → IsFirstUndriven cells.now bound.now (readers_of cells.now shape) by → (flat : Flat) → ¬ IsCircuitOf cells.now bound.now flat }

@@ -4,17 +4,12 @@
 //! The numbers are those of the places in the order of `flat_places`; the laws here say so.
 #![tactic(auto)]
 
-mod answers;
 mod circuits;
 mod drives;
 mod laws;
 
-pub use answers::answers_tell_drivers;
 pub use circuits::{circuits_are_one, refused_have_none};
 pub use drives::{
     numbers_drive_places, numbers_tell_readers, numbers_tell_rings, numbers_tell_two,
 };
-pub use laws::{
-    ends_are_few, ends_are_numbered, pieces_count_places, pieces_link_hops, pieces_list_cells,
-    pieces_number_pins, pins_are_linked, whole_is_listed,
-};
+pub use laws::{ends_are_numbered, whole_is_listed};

@@ -8,8 +8,8 @@ use Rattle.rsfq_ids.specs.declared.circuit.Driver.{Driver}
 use Rattle.rsfq_ids.specs.declared.circuit.Reader.{Reader}
 use Rattle.rsfq_ids.specs.WellFormed.{drivers_of, readers_of}
 use Rattle.bound_source.specs.declared.bound.Bound.{Bound}
-use Rattle.design_size.specs.declared.limits.LimitFault.{LimitFault}
-use Rattle.design_size.specs.declared.limits.LimitFault.TheVariants as limit
+use Rattle.design_size.specs.declared.limits.SizeFault.{SizeFault}
+use Rattle.design_size.specs.declared.limits.SizeFault.TheVariants as limit
 use Rattle.design_size.specs.Sizes.{IsWithinLimits, PassesLimit}
 use Rattle.flat_places.specs.Circuit.{IsCircuitOf}
 use Rattle.flat_places.specs.Places.{Place}
@@ -21,12 +21,12 @@ use Rattle.flattener.specs.Refused.{shape_of, IsSound, IsRefused}
 
 -- what the laws on circuits say of a source
 pub record Excludes (table : CellTable) (bound : Bound) : Type 0 where
-  pub limits : (fault : LimitFault) → fault ≢ limit.Memory → PassesLimit bound fault → IsWithinLimits bound → ⊥
+  pub limits : (fault : SizeFault) → fault ≢ limit.Memory → PassesLimit bound fault → IsWithinLimits bound → ⊥
   pub two : (flat : Flat) (place : Place) (one other : Driver) → IsFirstTwo table bound (drivers_of table flat) place one other → HasOneDriver table bound place → ⊥
   pub rings : (ring : List Place) → IsNamedRing bound ring → IsRing bound ring
   pub undriven : (shape : Flat) → IsShapeOf bound shape → (by : Reader) → IsFirstUndriven table bound (readers_of table shape) by → (flat : Flat) → IsCircuitOf table bound flat → ⊥
 
-excluded : (table : CellTable) (bound : Bound) → Excludes table bound → (why : FlatFault) → IsRefused table bound why → why ≢ Memory → (other : Flat) → IsSound table bound → IsCircuitOf table bound other → ⊥
+pub excluded : (table : CellTable) (bound : Bound) → Excludes table bound → (why : FlatFault) → IsRefused table bound why → why ≢ Memory → (other : Flat) → IsSound table bound → IsCircuitOf table bound other → ⊥
 excluded table bound laws (NestingLimit count) r known other sound circuit = laws.limits (limit.Nesting count) (λ e. cc) r sound.limits
 excluded table bound laws (CellLimit count) r known other sound circuit = laws.limits (limit.Cells count) (λ e. cc) r sound.limits
 excluded table bound laws (WireLimit count) r known other sound circuit = laws.limits (limit.Wires count) (λ e. cc) r sound.limits

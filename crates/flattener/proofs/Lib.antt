@@ -15,4 +15,5 @@ pub mod Writing
 pub mod Resolving
 pub mod Connecting
 pub mod Excluding
+pub mod Agreeing
 pub mod Sampled

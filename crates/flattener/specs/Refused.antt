@@ -1,5 +1,5 @@
 -- When a bound source has no circuit, and which refusal that is.
-use Rattle.std.specs.Prelude.{◌≡◌, ℕ, List, [], map, slice_get, unwrap_or}
+use Rattle.std.specs.Prelude.{◌≡◌, ◌⊎◌, ℕ, List, [], map, slice_get, unwrap_or}
 use Rattle.std.specs.Option.{option_map}
 use Rattle.rsfq_ids.specs.declared.table.CellTable.{CellTable}
 use Rattle.rsfq_ids.specs.declared.circuit.Flat.{Flat}
@@ -7,7 +7,7 @@ use Rattle.rsfq_ids.specs.declared.circuit.Driver.{Driver}
 use Rattle.rsfq_ids.specs.declared.circuit.Reader.{Reader}
 use Rattle.rsfq_ids.specs.WellFormed.{drivers_of, readers_of}
 use Rattle.bound_source.specs.declared.bound.Bound.{Bound}
-use Rattle.design_size.specs.declared.limits.LimitFault.TheVariants as limit
+use Rattle.design_size.specs.declared.limits.SizeFault.TheVariants as limit
 use Rattle.design_size.specs.Sizes.{IsWithinLimits, PassesLimit}
 use Rattle.flat_places.specs.Places.{Place, cells_of}
 use Rattle.flat_places.specs.Circuit.{port_bits}
@@ -69,3 +69,11 @@ IsRefused table bound (TwoDrivers wire first second) = IsWithinLimits bound × N
 IsRefused table bound (AliasLoop wires) = IsWithinLimits bound × ((place : Place) → HasOneDriver table bound place) × NamesRing bound wires
 IsRefused table bound (NoDriver pin) = IsSound table bound × NamesUndriven table bound pin
 IsRefused table bound Memory = Unit {0}
+
+-- it names a ring
+abbrev pub IsAliasLoop : FlatFault → Type 0
+IsAliasLoop why = (wires : List (List ℕ)) × (why ≡ AliasLoop wires)
+
+-- The two refusals are the same, but that of several rings each may name another one.
+abbrev pub AgreeButRings : FlatFault → FlatFault → Type 0
+AgreeButRings one other = (one ≡ other) ⊎ (IsAliasLoop one × IsAliasLoop other)

@@ -4,7 +4,7 @@ ghost use Rattle.std.specs.Prelude.{◌≡◌};
 ghost use Rattle.flattener.specs.declared.fault.FlatFault.TheVariants.{Memory};
 ghost use Rattle.flattener.specs.Limits.{flat_fault};
 
-use design_size::LimitFault;
+use design_size::SizeFault;
 use rsfq_ids::list::{List, NoMemory};
 use rsfq_ids::name::Name;
 use std::alloc::{AllocError, AllocFailed};
@@ -36,15 +36,15 @@ pub enum FlatFault {
     Memory,
 }
 
-impl From<LimitFault> for FlatFault {
+impl From<SizeFault> for FlatFault {
     ghost from_gives = { λ fault e. e ≡ flat_fault fault };
 
-    fn from(fault: LimitFault) -> FlatFault {
+    fn from(fault: SizeFault) -> FlatFault {
         match fault {
-            LimitFault::Nesting(count) => FlatFault::NestingLimit(count),
-            LimitFault::Cells(count) => FlatFault::CellLimit(count),
-            LimitFault::Wires(count) => FlatFault::WireLimit(count),
-            LimitFault::Memory => FlatFault::Memory,
+            SizeFault::Nesting(count) => FlatFault::NestingLimit(count),
+            SizeFault::Cells(count) => FlatFault::CellLimit(count),
+            SizeFault::Wires(count) => FlatFault::WireLimit(count),
+            SizeFault::Memory => FlatFault::Memory,
         }
     }
 }

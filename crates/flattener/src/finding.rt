@@ -56,14 +56,18 @@ fn find_instance(design: Design, at: u32, begins: &[u64], number: u64) -> Option
 {
     let owner = &design.bound.modules.as_slice()[at as usize];
     let instances = owner.instances.as_slice();
-    let at = last_begin(begins, number);
-    let rest = number - begins[at];
-    if at == instances.len() {
+    let place = last_begin(begins, number);
+    let rest = number - begins[place];
+    if place == instances.len() {
         return None;
     }
-    let instance = &instances[at];
+    let instance = &instances[place];
     match instance.kind {
-        BoundKind::Module(inner) => Some(Inside { at, inner, rest }),
+        BoundKind::Module(inner) => Some(Inside {
+            at: place,
+            inner,
+            rest,
+        }),
         BoundKind::Cell(_) => unreachable!(),
     }
 }

@@ -7,8 +7,9 @@ ghost use Rattle.bound_source.specs.WellFormed.{IsBound};
 ghost use Rattle.design_size.specs.Sizes.{IsWithinLimits};
 ghost use Rattle.flat_places.specs.Circuit.{IsCircuitOf};
 ghost use Rattle.flat_pieces.specs.Whole.{whole_piece};
+ghost use Rattle.flattener.specs.declared.fault.FlatFault.{FlatFault};
 ghost use Rattle.flattener.specs.declared.fault.FlatFault.TheVariants.{Memory};
-ghost use Rattle.flattener.specs.Refused.{IsSound, IsRefused};
+ghost use Rattle.flattener.specs.Refused.{IsSound, IsRefused, AgreeButRings};
 ghost use Rattle.flattener.specs.Gathered.{AreEnds, ArePins};
 ghost use Rattle.flattener.specs.Walk.{IsDesign};
 ghost use Rattle.flattener.specs.Written.{piece_of};
@@ -152,31 +153,15 @@ fn connect(alloc: Global, design: Design, wiring: Wiring) -> Result<Flat, FlatFa
     })
 }
 
-/// The circuit of a bound source over a cell table, which has no other one: each reading pin and each output bit has the one thing that drives
-/// it.
-///
-/// Takes time linear in the source, the places, the cells and the wires that assigns join bit by bit. A refusal that names places takes besides,
-/// for each, as many steps as there are levels, each with two searches by halving.
-///
-/// # Errors
-///
-/// The first of these that holds: `NestingLimit(65)`, `CellLimit(100001)`, `WireLimit(2000001)` exactly where that limit is passed;
-/// `TwoDrivers` exactly where two different drivers drive one wire bit; `AliasLoop` exactly where wire bits follow each other in a ring;
-/// `NoDriver` exactly where nothing drives the place of a reading pin or of an output bit. `Memory` where memory could not be had.
-/// What is refused for another cause than memory has no circuit within the limits in which each wire bit has one driver and none stand in a
-/// ring.
-pub fn flatten(alloc: Global, bound: &Bound, cells: &CellTable) -> Result<Flat, FlatFault>
+/// The circuit of a bound source over a cell table, or why it has none.
+fn find_circuit(alloc: Global, bound: &Bound, cells: &CellTable) -> Result<Flat, FlatFault>
     requires table { IsTable cells.now }
     requires bound { IsBound cells.now bound.now }
     ensures circuit { IfOk result (IsCircuitOf cells.now bound.now) }
     ensures flat { IfOk result (IsFlat cells.now) }
     ensures sound { OnOk result (IsSound cells.now bound.now) }
     ensures err { IfErr result (IsRefused cells.now bound.now) }
-    ensures only { IfOk result (λ flat. (other : Flat) → IsCircuitOf cells.now bound.now other → other ≡ flat) }
-    ensures none { IfErr result (λ why. why ≢ Memory → (other : Flat) → IsSound cells.now bound.now → ¬ IsCircuitOf cells.now bound.now other) }
 {
-    circuits_are_one(cells, bound);
-    refused_have_none(cells, bound);
     let sizes = measure(alloc, bound)?;
     let solid = solid_instances(alloc, bound.modules.as_slice(), sizes.as_slice())?;
     let design = Design {
@@ -187,4 +172,36 @@ pub fn flatten(alloc: Global, bound: &Bound, cells: &CellTable) -> Result<Flat, 
     };
     let wiring = write_out(alloc, design)?;
     connect(alloc, design, wiring)
+}
+
+/// The circuit of a bound source over a cell table, which has no other one: each reading pin and each output bit has the one thing that drives
+/// it.
+///
+/// Takes 64 passes over the source, and then steps for each place, each cell and each bit that assigns or links join. An instance that only
+/// leads on to one place or cell is walked through as well, so each of these may take as many steps as there are levels; and the path to a
+/// cell is written once for each level. Where assigns and links join more than 2^26 bits, counted in each copy of a module, the answer is
+/// `Memory`. A refusal that names places takes besides, for each, as many steps as there are levels, each with two searches by halving.
+///
+/// # Errors
+///
+/// The first of these that holds: `NestingLimit(65)`, `CellLimit(100001)`, `WireLimit(2000001)` exactly where that limit is passed;
+/// `TwoDrivers` exactly where two different drivers drive one wire bit; `AliasLoop` exactly where wire bits follow each other in a ring;
+/// `NoDriver` exactly where nothing drives the place of a reading pin or of an output bit. `Memory` where memory could not be had.
+/// What is refused for another cause than memory has no circuit within the limits in which each wire bit has one driver and none stand in a
+/// ring. It has no other refusal but for memory and, where there are several rings, for another ring; and what has a circuit has none.
+pub fn flatten(alloc: Global, bound: &Bound, cells: &CellTable) -> Result<Flat, FlatFault>
+    requires table { IsTable cells.now }
+    requires bound { IsBound cells.now bound.now }
+    ensures circuit { IfOk result (IsCircuitOf cells.now bound.now) }
+    ensures flat { IfOk result (IsFlat cells.now) }
+    ensures sound { OnOk result (IsSound cells.now bound.now) }
+    ensures err { IfErr result (IsRefused cells.now bound.now) }
+    ensures only { IfOk result (λ flat. (other : Flat) → IsCircuitOf cells.now bound.now other → other ≡ flat) }
+    ensures none { IfErr result (λ why. why ≢ Memory → (other : Flat) → IsSound cells.now bound.now → ¬ IsCircuitOf cells.now bound.now other) }
+    ensures agree { IfErr result (λ why. why ≢ Memory → (other : FlatFault) → other ≢ Memory → IsRefused cells.now bound.now other → AgreeButRings why other) }
+    ensures unrefused { IfOk result (λ flat. (other : FlatFault) → other ≢ Memory → ¬ IsRefused cells.now bound.now other) }
+{
+    circuits_are_one(cells, bound);
+    refused_have_none(cells, bound);
+    find_circuit(alloc, bound, cells)
 }

@@ -24,7 +24,7 @@ use Rattle.flattener.specs.Refused.{IsSound}
 use Rattle.loading.specs.declared.refusal.Refusal.{Refusal}
 use Rattle.loading.specs.declared.refusal.Refusal.TheVariants as refusal
 use Rattle.loading.specs.Named.{bind_refusal, flat_refusal}
-use Rattle.loading.specs.Stages.{HasTree, HasNoTreeFor, HasCircuit}
+use Rattle.loading.specs.Stages.{HasTree, HasNoTreeFor, HasBound, HasCircuit}
 
 -- ---- trees
 
@@ -45,7 +45,7 @@ no_tree text refusal.Memory tree is named has = named refl
 -- ---- bound forms
 
 -- no cause stands where none stands anywhere
-no_first_fault : (s : Setting) (why : BindFault) → HasNoFault s → IsFirstFault s why → ⊥
+pub no_first_fault : (s : Setting) (why : BindFault) → HasNoFault s → IsFirstFault s why → ⊥
 no_first_fault s why clean first =
     let all : All (StandsNowhere s) (first.earlier ++ first.line ∷ first.later) = subst (All (StandsNowhere s)) first.order clean in
     let here : Contains (first.earlier ++ first.line ∷ first.later) first.line =
@@ -61,18 +61,18 @@ no_bound table top text tree why named_by flat only first by named has =
 
 -- ---- circuits
 
--- the bound form of a circuit of the text is the only one
-same_bound : (table : CellTable) (top : Option (List ℕ)) (text : List ℕ) (tree : List Module) (bound : Bound) (flat : Flat) →
-    ((other : List Module) → HasTree text other → other ≡ tree) → ((other : Bound) → Binds (setting tree table top) other → other ≡ bound) → (has : HasCircuit table top text flat) → has.bound ≡ bound
-same_bound table top text tree bound flat only one has =
-    let same = only has.has_bound.tree has.has_bound.has_tree in
-    one has.bound (subst (λ (t : List Module). Binds (setting t table top) has.bound) same has.has_bound.binds)
+-- the bound form of the text is the only one
+pub same_bound : (table : CellTable) (top : Option (List ℕ)) (text : List ℕ) (tree : List Module) (bound other : Bound) →
+    ((other : List Module) → HasTree text other → other ≡ tree) → ((other : Bound) → Binds (setting tree table top) other → other ≡ bound) → HasBound table top text other → other ≡ bound
+same_bound table top text tree bound other only one has =
+    let same = only has.tree has.has_tree in
+    one other (subst (λ (t : List Module). Binds (setting t table top) other) same has.binds)
 
 pub one_circuit : (table : CellTable) (top : Option (List ℕ)) (text : List ℕ) (tree : List Module) (bound : Bound) (flat other : Flat) →
     ((other : List Module) → HasTree text other → other ≡ tree) → ((other : Bound) → Binds (setting tree table top) other → other ≡ bound) →
     ((other : Flat) → IsCircuitOf table bound other → other ≡ flat) → HasCircuit table top text other → other ≡ flat
 one_circuit table top text tree bound flat other only one alone has =
-    let same = same_bound table top text tree bound other only one has in
+    let same = same_bound table top text tree bound has.bound only one has.has_bound in
     alone other (subst (λ (b : Bound). IsCircuitOf table b other) same has.circuit)
 
 pub no_circuit : (table : CellTable) (top : Option (List ℕ)) (text : List ℕ) (tree : List Module) (bound : Bound) (why : FlatFault) (named_by : Refusal) (flat : Flat) →
@@ -80,5 +80,5 @@ pub no_circuit : (table : CellTable) (top : Option (List ℕ)) (text : List ℕ)
     (why ≢ flat_fault.Memory → (other : Flat) → IsSound table bound → IsCircuitOf table bound other → ⊥) → named_by ≡ flat_refusal why → named_by ≢ refusal.Memory →
     HasCircuit table top text flat → ⊥
 no_circuit table top text tree bound why named_by flat only one none by named has =
-    let same = same_bound table top text tree bound flat only one has in
+    let same = same_bound table top text tree bound has.bound only one has.has_bound in
     none (λ memory. named (by ∙ ap flat_refusal memory)) flat (subst (λ (b : Bound). IsSound table b) same has.sound) (subst (λ (b : Bound). IsCircuitOf table b flat) same has.circuit)

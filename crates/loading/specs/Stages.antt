@@ -1,5 +1,5 @@
 -- What the text of a netlist comes to, stage by stage, and which refusal comes where a stage has none.
-use Rattle.std.specs.Prelude.{◌≡◌, ◌≢◌, ℕ, List, length, slice_get, Option, ⊤}
+use Rattle.std.specs.Prelude.{◌≡◌, ◌≢◌, ◌⊎◌, ℕ, List, length, slice_get, Option, ⊤}
 use Rattle.std.specs.Option.{option_map_or}
 use Rattle.rsfq_ids.specs.declared.table.CellTable.{CellTable}
 use Rattle.rsfq_ids.specs.declared.circuit.Flat.{Flat}
@@ -11,6 +11,7 @@ use Rattle.verilog_tree.specs.Spelling.{SpellsSource}
 use Rattle.verilog_tree.specs.Fault.{IsFault}
 use Rattle.bound_source.specs.declared.bound.Bound.{Bound}
 use Rattle.bound_source.specs.declared.fault.BindFault.{BindFault}
+use Rattle.bound_source.specs.declared.fault.BindFault.TheVariants as bind_fault
 use Rattle.bound_source.specs.Modules.{setting}
 use Rattle.bound_source.specs.Binds.{Binds}
 use Rattle.bound_source.specs.First.{HasNoFault, IsFirstFault}
@@ -81,3 +82,14 @@ IsRefused table top text (refusal.Parse place) = HasNoTree text place
 IsRefused table top text (refusal.Bind why) = IsUnbound table top text why
 IsRefused table top text (refusal.Flat why) = HasNoCircuit table top text why
 IsRefused table top text refusal.Memory = ⊤
+
+-- it names a ring of modules, or one of wire bits
+abbrev pub NamesModules : Refusal → Type 0
+NamesModules why = (names : List (List ℕ)) × (why ≡ refusal.Bind (bind_fault.Recursive names))
+
+abbrev pub NamesWires : Refusal → Type 0
+NamesWires why = (wires : List (List ℕ)) × (why ≡ refusal.Flat (flat_fault.AliasLoop wires))
+
+-- The two refusals are the same, but that of several rings each may name another one.
+abbrev pub AgreeButRings : Refusal → Refusal → Type 0
+AgreeButRings one other = (one ≡ other) ⊎ ((NamesModules one × NamesModules other) ⊎ (NamesWires one × NamesWires other))

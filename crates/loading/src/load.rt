@@ -10,16 +10,18 @@ ghost use Rattle.verilog_tree.specs.Views.{view_source};
 ghost use Rattle.verilog_tree.specs.Text.{IsSpelledTree};
 ghost use Rattle.verilog_tree.specs.Words.{words};
 ghost use Rattle.verilog_tree.specs.Fault.{Explains};
+ghost use Rattle.loading.specs.declared.refusal.Refusal.{Refusal};
 ghost use Rattle.loading.specs.declared.refusal.Refusal.TheVariants.{Memory};
-ghost use Rattle.loading.specs.Stages.{HasTree, HasNoTreeFor, HasCircuit, IsRefused, token_place};
+ghost use Rattle.loading.specs.Stages.{HasTree, HasNoTreeFor, HasCircuit, IsRefused, AgreeButRings, token_place};
 
 use crate::refusal::Refusal;
+use bound_laws::laws::fault_is_one;
 use flattener::flatten;
 use rsfq_ids::circuit::Flat;
 use rsfq_ids::table::CellTable;
 use std::alloc::Global;
 use verilog_bind::bind;
-use verilog_lex::{List, Token, lex};
+use verilog_lex::{List, Token, lex, tokens_are_words};
 use verilog_tree::{ParseFault, Source, parse, words_spell_one_tree};
 
 /// The place of a token in a text: its first byte, or the text's length where no token has the number.
@@ -38,8 +40,10 @@ fn parse_refusal(text: &[u8], tokens: &List<Token>, fault: ParseFault) -> Refusa
     requires limit { length text.now ≤ 2 ^ 24 }
     requires reading { IsOnlyReading text.now tokens.now }
     requires fault { Explains (words text.now tokens.now) fault }
-    ensures { HasNoTreeFor text.now result }
+    ensures err { HasNoTreeFor text.now result }
+    ensures agree { result ≢ Memory → (other : Refusal) → other ≢ Memory → HasNoTreeFor text.now other → result ≡ other }
 {
+    tokens_are_words(text, tokens.as_slice());
     match fault {
         ParseFault::NoTree { at } => Refusal::Parse(token_place(text, tokens, at)),
         ParseFault::Memory => Refusal::Memory,
@@ -53,6 +57,7 @@ fn read_tree(alloc: Global, text: &[u8]) -> Result<Source, Refusal>
     ensures formed { IfOk result (λ source. IsSpelledTree (view_source source)) }
     ensures only { IfOk result (λ source. (other : List Module) → HasTree text.now other → other ≡ view_source source) }
     ensures err { IfErr result (HasNoTreeFor text.now) }
+    ensures agree { IfErr result (λ why. why ≢ Memory → (other : Refusal) → other ≢ Memory → HasNoTreeFor text.now other → why ≡ other) }
 {
     words_spell_one_tree();
     let tokens = lex(alloc, text)?;
@@ -65,12 +70,14 @@ fn read_tree(alloc: Global, text: &[u8]) -> Result<Source, Refusal>
 /// The circuit of the netlist with this text, over these cells, under the top of this name or, where none is given, the one module that no
 /// module instantiates. It is the only one.
 ///
-/// Takes time n log n in the text and linear in the limits on cells and wire bits, but for assigns that set the same bits again and again.
+/// Takes time n log n in the text, and then what [`flatten`] says: 64 passes over the bound source, and steps for each wire bit, cell and bit
+/// that assigns or links join, of which some are taken once for each level. More than 2^26 joined bits are answered as `Memory`.
 ///
 /// # Errors
 ///
-/// The refusal of the first stage that refuses: `Lex`, `Parse`, `Bind`, `Flat`, each with its first fault; and then the text has no circuit.
-/// `Memory` where memory could not be had.
+/// The refusal of the first stage that refuses: `Lex`, `Parse`, `Bind`, `Flat`, each with its first fault; and then the text has no circuit,
+/// and no other refusal but `Memory` and, where there are several rings of modules or of wire bits, that of another ring. What has a circuit
+/// has no refusal. `Memory` where memory could not be had.
 pub fn load_circuit(
     alloc: Global,
     text: &[u8],
@@ -84,7 +91,10 @@ pub fn load_circuit(
     ensures well_formed { IfOk result (IsFlat cells.now) }
     ensures refused { IfErr result (IsRefused cells.now (option_copied top.entry) text.now) }
     ensures none { IfErr result (λ why. why ≢ Memory → (flat : Flat) → ¬ HasCircuit cells.now (option_copied top.entry) text.now flat) }
+    ensures agree { IfErr result (λ why. why ≢ Memory → (other : Refusal) → other ≢ Memory → IsRefused cells.now (option_copied top.entry) text.now other → AgreeButRings why other) }
+    ensures unrefused { IfOk result (λ flat. (other : Refusal) → other ≢ Memory → ¬ IsRefused cells.now (option_copied top.entry) text.now other) }
 {
+    fault_is_one();
     let source = read_tree(alloc, text)?;
     let bound = bind(alloc, &source, cells, top)?;
     let flat = flatten(alloc, &bound, cells)?;

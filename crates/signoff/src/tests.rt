@@ -16,11 +16,11 @@ const REJECTED: &[u8] =
 
 const USAGE: &[u8] = b"usage: rsfq_signoff NETLIST PERIOD LOW HIGH\n";
 
-// Three JTLs in one chain, the last line first.
+/// Three JTLs in one chain, the last line first.
 const CHAIN: &[u8] =
     b"module top(input clk, input a, output y);\nJTL j2(.a(v), .q(y));\nJTL j1(.a(u), .q(v));\nJTL j0(.a(a), .q(u));\nendmodule\n";
 
-// Two wires, of one JTL and of two.
+/// Two wires, of one JTL and of two.
 const PAIR: &[u8] =
     b"module top(output y, input b, input clk, output z, input a);\nJTL k1(.a(u), .q(z));\nJTL j(.a(a), .q(y));\nJTL k0(.a(b), .q(u));\nendmodule\n";
 
@@ -32,6 +32,21 @@ fn words_of(alloc: Global, words: &[&str]) -> Result<Vec<String>, AllocError> {
         all.push(String::from_str(alloc, word)?)?;
     }
     Ok(all)
+}
+
+/// The period and the arrival of most rows.
+const TIMES: [&str; 3] = ["20000", "4000", "6000"];
+
+/// The status of a netlist in memory with these numbers, and what then stands on the sink.
+fn answer_to(alloc: Global, netlist: &[u8], numbers: [&str; 3]) -> Result<(Status, Vec<u8>), Fail> {
+    let [period, low, high] = numbers;
+    let mut folder = MemoryFolder::new(alloc, Vec::new(alloc));
+    folder.put("n.v", netlist)?;
+    let mut out = MemorySink::new(alloc, 1000, Vec::new(alloc))?;
+    let given = words_of(alloc, &["n.v", period, low, high])?;
+    let answer = sign_off_run(alloc, &given, &mut folder, &mut out);
+    let written = Vec::from_slice(alloc, out.bytes())?;
+    Ok((answer, written))
 }
 
 #[test]
@@ -98,11 +113,11 @@ fn rows_of_the_sign_off(rt: HostRuntime) -> Result<(), Fail> {
     Ok(())
 }
 
-// As a synthesis tool prints a netlist: attributes, escaped names, ports declared again as wires, concatenations on the left.
+/// As a synthesis tool prints a netlist: attributes, escaped names, ports declared again as wires, concatenations on the left.
 const PRINTED: &[u8] =
     b"(* src = \"top.v:1\" *)\nmodule top(clk, a, y);\n  input clk;\n  wire clk;\n  input [1:0] a;\n  wire [1:0] a;\n  output [1:0] y;\n  wire [1:0] y;\n  wire \\t.1 ;\n  (* keep = 1 *)\n  JTL \\j[0] (\n    .a(a[0]),\n    .q(\\t.1 )\n  );\n  JTL j1 (.a(a[1]), .q(u));\n  assign { y[0], y[1] } = { \\t.1 , u };\nendmodule\n";
 
-// A JTL in a module in a module.
+/// A JTL in a module in a module.
 const NESTED: &[u8] =
     b"module low(p, q); input p; output q; JTL j(p, q); endmodule\nmodule mid(input p, output q); low t(.q(q), .p(p)); endmodule\nmodule top(input clk, input a, output y); mid s(a, y); endmodule\n";
 
@@ -170,14 +185,10 @@ fn rows_of_wires(rt: HostRuntime) -> Result<(), Fail> {
             b"accepted\ndepth y[0] 1 from a[0]\ndepth y[1] 1 from a[1]\n",
         ),
     ];
-    for (netlist, [period, low, high], status, text) in rows {
-        let mut folder = MemoryFolder::new(alloc, Vec::new(alloc));
-        folder.put("n.v", netlist)?;
-        let mut out = MemorySink::new(alloc, 1000, Vec::new(alloc))?;
-        let given = words_of(alloc, &["n.v", period, low, high])?;
-        let answer = sign_off_run(alloc, &given, &mut folder, &mut out);
+    for (netlist, numbers, status, text) in rows {
+        let (answer, written) = answer_to(alloc, netlist, numbers)?;
         assert_eq!(rt; answer, status, "{:?}", netlist);
-        assert_eq!(rt; out.bytes(), text, "{:?}", netlist);
+        assert_eq!(rt; written.as_slice(), text, "{:?}", netlist);
     }
     Ok(())
 }
@@ -254,14 +265,10 @@ fn rows_of_forms(rt: HostRuntime) -> Result<(), Fail> {
             FORM,
         ),
     ];
-    for (netlist, [period, low, high], status, text) in rows {
-        let mut folder = MemoryFolder::new(alloc, Vec::new(alloc));
-        folder.put("n.v", netlist)?;
-        let mut out = MemorySink::new(alloc, 1000, Vec::new(alloc))?;
-        let given = words_of(alloc, &["n.v", period, low, high])?;
-        let answer = sign_off_run(alloc, &given, &mut folder, &mut out);
+    for (netlist, numbers, status, text) in rows {
+        let (answer, written) = answer_to(alloc, netlist, numbers)?;
         assert_eq!(rt; answer, status, "{:?}", netlist);
-        assert_eq!(rt; out.bytes(), text, "{:?}", netlist);
+        assert_eq!(rt; written.as_slice(), text, "{:?}", netlist);
     }
     Ok(())
 }
@@ -339,14 +346,10 @@ fn rows_of_circuits(rt: HostRuntime) -> Result<(), Fail> {
             b"refused flat alias loop u v\n",
         ),
     ];
-    for (netlist, [period, low, high], status, text) in rows {
-        let mut folder = MemoryFolder::new(alloc, Vec::new(alloc));
-        folder.put("n.v", netlist)?;
-        let mut out = MemorySink::new(alloc, 1000, Vec::new(alloc))?;
-        let given = words_of(alloc, &["n.v", period, low, high])?;
-        let answer = sign_off_run(alloc, &given, &mut folder, &mut out);
+    for (netlist, numbers, status, text) in rows {
+        let (answer, written) = answer_to(alloc, netlist, numbers)?;
         assert_eq!(rt; answer, status, "{:?}", netlist);
-        assert_eq!(rt; out.bytes(), text, "{:?}", netlist);
+        assert_eq!(rt; written.as_slice(), text, "{:?}", netlist);
     }
     Ok(())
 }
@@ -413,19 +416,107 @@ fn rows_of_texts(rt: HostRuntime) -> Result<(), Fail> {
             b"refused parse 20\n",
         ),
     ];
-    for (netlist, [period, low, high], status, text) in rows {
-        let mut folder = MemoryFolder::new(alloc, Vec::new(alloc));
-        folder.put("n.v", netlist)?;
-        let mut out = MemorySink::new(alloc, 1000, Vec::new(alloc))?;
-        let given = words_of(alloc, &["n.v", period, low, high])?;
-        let answer = sign_off_run(alloc, &given, &mut folder, &mut out);
+    for (netlist, numbers, status, text) in rows {
+        let (answer, written) = answer_to(alloc, netlist, numbers)?;
         assert_eq!(rt; answer, status, "{:?}", netlist);
-        assert_eq!(rt; out.bytes(), text, "{:?}", netlist);
+        assert_eq!(rt; written.as_slice(), text, "{:?}", netlist);
     }
     Ok(())
 }
 
-// Modules with two instances of the next, so many deep.
+// Each fault of binding with its line, but for `no top` and `no module`, which stand in rows above.
+#[test]
+fn rows_of_binding(rt: HostRuntime) -> Result<(), Fail> {
+    let alloc = rt.alloc();
+    let rows: [(&[u8], &[u8]); 10] = [
+        // Two instances of one name.
+        (
+            b"module top(input clk, input a, output y, output z); JTL j(.a(a), .q(y)); JTL j(.a(a), .q(z)); endmodule",
+            b"refused bind duplicate j j\n",
+        ),
+        (
+            b"module one(input clk); endmodule module two(input clk); endmodule",
+            b"refused bind two tops one two\n",
+        ),
+        // A ring is named from its first module in the text on, whichever the top comes to first.
+        (
+            b"module top(input clk); late u(); endmodule module early(); late u(); endmodule module late(); early u(); endmodule",
+            b"refused bind recursive early late\n",
+        ),
+        // A link to a port that the cell does not have, and two links to one.
+        (
+            b"module top(input clk, input a, output y); JTL j(.a(a), .b(y)); endmodule",
+            b"refused bind port b\n",
+        ),
+        (
+            b"module top(input clk, input u, input v, output y); JTL j(.a(u), .a(v), .q(y)); endmodule",
+            b"refused bind port twice a\n",
+        ),
+        (
+            b"module top(input clk, input u, input v, output y); JTL j(u, y, v); endmodule",
+            b"refused bind too many 3 2\n",
+        ),
+        (
+            b"module top(input clk, output y); assign y = b; endmodule",
+            b"refused bind no name b\n",
+        ),
+        // One past the left end of a range.
+        (
+            b"module top(input clk, input [3:0] a, output y); assign y = a[4]; endmodule",
+            b"refused bind range a\n",
+        ),
+        (
+            b"module top(input clk, input [1:0] a, output [2:0] y); assign y = a; endmodule",
+            b"refused bind width 2 3\n",
+        ),
+        (
+            b"module top(input clk, input [4096:0] a); endmodule",
+            b"refused limit width 4097\n",
+        ),
+    ];
+    for (netlist, text) in rows {
+        let (answer, written) = answer_to(alloc, netlist, TIMES)?;
+        assert_eq!(rt; answer, Status::Refused, "{:?}", netlist);
+        assert_eq!(rt; written.as_slice(), text, "{:?}", netlist);
+    }
+    Ok(())
+}
+
+// Which of several faults is named, by the order of places, of drivers and of readers.
+#[test]
+fn rows_of_orders(rt: HostRuntime) -> Result<(), Fail> {
+    let alloc = rt.alloc();
+    let rows: [(&[u8], &[u8]); 4] = [
+        // A cell inside an instance before the cells behind the instance.
+        (
+            b"module m(output q); JTL i(.a(q), .q(q)); endmodule module top(input clk, input a, output y); m u(.q(y)); JTL k(.a(a), .q(y)); endmodule",
+            b"refused flat two drivers y u.i.q k.q\n",
+        ),
+        // A module's own wires before those inside its instances.
+        (
+            b"module m(output y); JTL i(.a(p), .q(y)); JTL j(.a(p), .q(y)); endmodule module top(input clk, input a); m u(); JTL k(.a(a), .q(w)); JTL l(.a(a), .q(w)); endmodule",
+            b"refused flat two drivers w k.q l.q\n",
+        ),
+        // The bits of a vector from the right end of its range.
+        (
+            b"module top(input clk, input a, output [0:1] y); JTL i(.a(a), .q(y[0])); JTL j(.a(a), .q(y[0])); JTL k(.a(a), .q(y[1])); JTL l(.a(a), .q(y[1])); endmodule",
+            b"refused flat two drivers y[1] k.q l.q\n",
+        ),
+        // The pins of cells before the outputs.
+        (
+            b"module m(input p, output q); JTL i(.a(p), .q(q)); endmodule module top(input clk, output y); wire w; m u(.p(w)); endmodule",
+            b"refused flat no driver u.i.a\n",
+        ),
+    ];
+    for (netlist, text) in rows {
+        let (answer, written) = answer_to(alloc, netlist, TIMES)?;
+        assert_eq!(rt; answer, Status::Refused, "{:?}", netlist);
+        assert_eq!(rt; written.as_slice(), text, "{:?}", netlist);
+    }
+    Ok(())
+}
+
+/// Modules with two instances of the next, so many deep.
 fn deep_modules(alloc: Global, count: u32) -> Result<Vec<u8>, AllocError> {
     let mut text = Vec::new(alloc);
     for i in 1..count {
@@ -444,20 +535,14 @@ fn at_most_64_levels(rt: HostRuntime) -> Result<(), Fail> {
     let rows: [(u32, &[u8]); 2] = [(64, FORM), (65, b"refused limit nesting 65\n")];
     for (count, text) in rows {
         let netlist = deep_modules(alloc, count)?;
-        let mut folder = MemoryFolder::new(alloc, Vec::new(alloc));
-        folder.put("n.v", &netlist)?;
-        let mut out = MemorySink::new(alloc, 1000, Vec::new(alloc))?;
-        let given = words_of(alloc, &["n.v", "20000", "4000", "6000"])?;
-        assert_eq!(rt;
-            sign_off_run(alloc, &given, &mut folder, &mut out),
-            Status::Refused
-        );
-        assert_eq!(rt; out.bytes(), text);
+        let (answer, written) = answer_to(alloc, &netlist, TIMES)?;
+        assert_eq!(rt; answer, Status::Refused);
+        assert_eq!(rt; written.as_slice(), text);
     }
     Ok(())
 }
 
-// JTLs in one chain, so many and one more.
+/// JTLs in one chain, so many and one more.
 fn long_chain(alloc: Global, count: u32) -> Result<Vec<u8>, AllocError> {
     let mut text = Vec::from_slice(alloc, b"module top(input clk, input w0, output y);\n")?;
     for i in 0..count {
@@ -479,13 +564,9 @@ fn at_most_100000_jtls(rt: HostRuntime) -> Result<(), Fail> {
     ];
     for (count, status, text) in rows {
         let netlist = long_chain(alloc, count)?;
-        let mut folder = MemoryFolder::new(alloc, Vec::new(alloc));
-        folder.put("n.v", &netlist)?;
-        let mut out = MemorySink::new(alloc, 1000, Vec::new(alloc))?;
-        let given = words_of(alloc, &["n.v", "1000000000", "0", "0"])?;
-        let answer = sign_off_run(alloc, &given, &mut folder, &mut out);
+        let (answer, written) = answer_to(alloc, &netlist, ["1000000000", "0", "0"])?;
         assert_eq!(rt; answer, status);
-        assert_eq!(rt; out.bytes(), text);
+        assert_eq!(rt; written.as_slice(), text);
     }
     Ok(())
 }
@@ -500,13 +581,9 @@ fn at_most_16_mib(rt: HostRuntime) -> Result<(), Fail> {
     ];
     for (count, text) in rows {
         let blanks = vec![in alloc; b' '; count]?;
-        let mut folder = MemoryFolder::new(alloc, Vec::new(alloc));
-        folder.put("n.v", &blanks)?;
-        let mut out = MemorySink::new(alloc, 1000, Vec::new(alloc))?;
-        let given = words_of(alloc, &["n.v", "20000", "4000", "6000"])?;
-        let answer = sign_off_run(alloc, &given, &mut folder, &mut out);
+        let (answer, written) = answer_to(alloc, &blanks, TIMES)?;
         assert_eq!(rt; answer, Status::Refused);
-        assert_eq!(rt; out.bytes(), text);
+        assert_eq!(rt; written.as_slice(), text);
     }
     Ok(())
 }

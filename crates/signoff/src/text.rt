@@ -93,7 +93,7 @@ fn push_time(text: &mut Vec<u8>, time: i128) -> Result<(), NoMemory>
     push(text, buffer.format(time).as_bytes())
 }
 
-// An output and its depth.
+/// An output and its depth.
 fn push_output(text: &mut Vec<u8>, flat: &Flat, found: &WireDepth) -> Result<(), NoMemory>
     ensures { IfOk result (λ _. text.new.items ≡ text.old.items ++ output_depth flat.now found.now) }
 {
@@ -113,7 +113,7 @@ fn depth_line(alloc: Global, flat: &Flat, found: &WireDepth) -> Result<Vec<u8>, 
     Ok(text)
 }
 
-// The line of an arc: the net that it drives, and its delay.
+/// The line of an arc: the net that it drives, and its delay.
 fn arc_line(
     alloc: Global,
     table: &CellTable,
@@ -142,7 +142,7 @@ fn arc_line(
     Ok(text)
 }
 
-// A line for each arc that has a delay.
+/// A line for each arc that has a delay.
 fn arc_lines(
     alloc: Global,
     table: &CellTable,
@@ -174,7 +174,7 @@ fn plus(one: i128, other: i128) -> i128
     one + other
 }
 
-// The sum of delays.
+/// The sum of delays.
 fn total_delay(delays: &[i64]) -> i128
     ensures sum { result ≡ total delays.now }
     ensures large { IsWithin (negsuc (2 ^ 124)) (pos (2 ^ 124)) result }
@@ -186,7 +186,7 @@ fn total_delay(delays: &[i64]) -> i128
     sum
 }
 
-// The time of a tick of the clock.
+/// The time of a tick of the clock.
 fn tick_at(bench: &Bench, number: u64) -> i128
     requires { IsPositiveTime bench.now.period }
     ensures time { result ≡ tick_at bench.now number }
@@ -195,7 +195,7 @@ fn tick_at(bench: &Bench, number: u64) -> i128
     i128::from(number) * i128::from(bench.period)
 }
 
-// The time of a pulse on its path.
+/// The time of a pulse on its path.
 fn time_of(bench: &Bench, pick: &PathPick) -> i128
     requires { IsPositiveTime bench.now.period }
     ensures time { result ≡ pick_time bench.now pick.now }
@@ -207,7 +207,7 @@ fn time_of(bench: &Bench, pick: &PathPick) -> i128
     )
 }
 
-// The time of a strobe.
+/// The time of a strobe.
 fn strobe_at(bench: &Bench, strobe: &Strobe, number: u64) -> i128
     requires period { IsPositiveTime bench.now.period }
     requires offset { IsTime strobe.now.offset }
@@ -217,7 +217,7 @@ fn strobe_at(bench: &Bench, strobe: &Strobe, number: u64) -> i128
     plus(i128::from(strobe.offset), tick_at(bench, number))
 }
 
-// How much later one time is than another.
+/// How much later one time is than another.
 fn minus(one: i128, other: i128) -> i128
     requires one { IsWithin (negsuc (2 ^ 125)) (pos (2 ^ 125)) one }
     requires other { IsWithin (negsuc (2 ^ 123)) (pos (2 ^ 123)) other }
@@ -257,7 +257,7 @@ pub fn stages_text(alloc: Global, flat: &Flat, found: &WireDepth) -> Result<Vec<
     Ok(text)
 }
 
-// A pulse: where it begins, its number and its time in femtoseconds, and its arcs with their delays.
+/// A pulse: where it begins, its number and its time in femtoseconds, and its arcs with their delays.
 fn pick_text(
     alloc: Global,
     table: &CellTable,
@@ -290,7 +290,7 @@ fn pick_text(
     Ok(text)
 }
 
-// The first lines of a rejection: the rule, the output, and the zone around its strobe.
+/// The first lines of a rejection: the rule, the output, and the zone around its strobe.
 fn window_head(
     alloc: Global,
     flat: &Flat,
@@ -309,7 +309,7 @@ fn window_head(
     Ok(text)
 }
 
-// The last lines of a rejection: the strobe with its number and time, and how much later the pulse is.
+/// The last lines of a rejection: the strobe with its number and time, and how much later the pulse is.
 fn strobe_text(
     alloc: Global,
     bench: &Bench,

@@ -20,7 +20,7 @@ ghost use Rattle.signoff.specs.Answers.{AreShallow, IsReplied, IsAnswer};
 
 use crate::text::{accepted_text, stages_text, window_text};
 use crate::words::Times;
-use flat_form::{FormFault, Wires, find_wires, wire_bench, wire_table};
+use flat_form::{Wires, find_wires, wire_bench, wire_table};
 use loading::{Refusal, load_circuit};
 use pulse_laws::laws::{order_is_free, wires_are_signed};
 use report::refusal_line;
@@ -36,7 +36,7 @@ use wire_timing::{WireDepth, time_wires};
 /// The greatest depth that an output may have.
 const DEPTH_LIMIT: u64 = 1_000_000;
 
-// The output bit that a pin is, with its strobe.
+/// The output bit that a pin is, with its strobe.
 fn output_at(flat: &Flat, bench: &Bench, pin: PinId) -> Option<(PortId, Strobe)>
     ensures { MatchOption result
         ((output : PortId) (net : NetId) (strobe : Strobe) → IsPin flat.now pin (reader.Port output) net → IsUsed bench.now output (port_use.Strobed strobe) → ⊥)
@@ -54,7 +54,7 @@ fn output_at(flat: &Flat, bench: &Bench, pin: PinId) -> Option<(PortId, Strobe)>
     }
 }
 
-// The reply where the first window offence is this pulse at this strobe.
+/// The reply where the first window offence is this pulse at this strobe.
 fn show(
     alloc: Global,
     table: &CellTable,
@@ -77,7 +77,7 @@ fn show(
     })
 }
 
-// The reply where this is the first window offence.
+/// The reply where this is the first window offence.
 fn reject(
     alloc: Global,
     table: &CellTable,
@@ -103,7 +103,7 @@ fn reject(
     show(alloc, table, flat, bench, *pin, pulse, *number)
 }
 
-// The bench of the wires at the times that are asked for.
+/// The bench of the wires at the times that are asked for.
 fn bench_of(alloc: Global, flat: &Flat, wires: &Wires, times: Times) -> Result<Bench, NoMemory>
     requires flat { IsFlat jtl_table flat.now }
     requires wires { AreWires flat.now wires.now }
@@ -121,7 +121,7 @@ fn bench_of(alloc: Global, flat: &Flat, wires: &Wires, times: Times) -> Result<B
     )
 }
 
-// The first output that is too deep.
+/// The first output that is too deep.
 fn find_deep(depths: &[WireDepth]) -> Option<usize>
     ensures { MatchOption result
         (AreShallow depths.now)
@@ -135,7 +135,7 @@ fn find_deep(depths: &[WireDepth]) -> Option<usize>
     None
 }
 
-// The reply where no window offence exists and these are the depths: accepted, or refused where an output is too deep.
+/// The reply where no window offence exists and these are the depths: accepted, or refused where an output is too deep.
 fn accept(alloc: Global, flat: &Flat, depths: &[WireDepth]) -> Result<Reply, NoMemory>
     ensures { IfOk result (λ reply. IsReplied flat.now depths.now reply.status reply.text.items) }
 {
@@ -151,7 +151,7 @@ fn accept(alloc: Global, flat: &Flat, depths: &[WireDepth]) -> Result<Reply, NoM
     }
 }
 
-// The reply to the window rule's answer.
+/// The reply to the window rule's answer.
 fn judge(
     alloc: Global,
     table: &CellTable,
@@ -176,24 +176,23 @@ fn judge(
     }
 }
 
-// The reply to a circuit: judged where it is of the form, and else refused.
+/// The reply to a circuit: judged where it is of the form, and else refused.
 fn answer(alloc: Global, table: &CellTable, flat: &Flat, times: Times) -> Result<Reply, NoMemory>
     requires table { table.now ≡ jtl_table }
     requires flat { IsFlat jtl_table flat.now }
     requires times { AreTimes times }
     ensures { IfOk result (λ reply. IsAnswer times flat.now reply.status reply.text.items) }
 {
-    match find_wires(alloc, flat) {
-        Ok(wires) => judge(alloc, table, flat, &wires, times),
-        Err(FormFault::NotOfForm) => Ok(Reply {
+    match find_wires(alloc, flat)? {
+        Some(wires) => judge(alloc, table, flat, &wires, times),
+        None => Ok(Reply {
             status: Status::Refused,
             text: Vec::from_slice(alloc, b"refused form\n")?,
         }),
-        Err(FormFault::Memory) => Err(NoMemory),
     }
 }
 
-// The reply where the netlist has no circuit.
+/// The reply where the netlist has no circuit.
 fn refuse(alloc: Global, refusal: &Refusal) -> Result<Reply, NoMemory>
     ensures { IfOk result (λ reply. (refusal.now ≢ refusals.Memory) × (reply.status ≡ Status.Refused) × (reply.text.items ≡ refusal_line refusal.now)) }
 {

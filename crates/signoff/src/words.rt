@@ -22,7 +22,7 @@ pub struct Times {
     pub high: u32,
 }
 
-// The number that a word is the print of.
+/// The number that a word is the print of.
 fn read_number(word: &str) -> Option<u32>
     ensures { MatchOption result ((n : ℕ) → n ≤ 1000000000 → word.now ≢ decimal n) (λ n. (n ≤ 1000000000) × (word.now ≡ decimal n)) }
 {
@@ -37,7 +37,7 @@ fn read_number(word: &str) -> Option<u32>
     }
 }
 
-// The three numbers, where they are spelled as numbers and are a period and an arrival.
+/// The three numbers, where they are spelled as numbers and are a period and an arrival.
 fn read_times(period: &str, low: &str, high: &str) -> Option<Times>
     ensures { MatchOption result
         ((t : Times) → AreTimes t → period.now ≡ decimal t.period → low.now ≡ decimal t.low → high.now ≡ decimal t.high → ⊥)

@@ -12,7 +12,7 @@ walk-requires-clause-walk c =
 pub returns-then-len-clause-ring : goal.returns-then-len-clause-ring
 returns-then-len-clause-ring c =
     let lt : length c.walk.new.order < length c.args.flat.now.cells = omega arith in
-    λ e. ring_of c.args.flat.now c.requires.flat c.walk.new.seen c.walk.new.order c.in_ok-walk.ensures.done lt
+    ring_of c.args.flat.now c.requires.flat c.walk.new.seen c.walk.new.order c.in_ok-walk.ensures.done lt
 
 pub returns-clause-ordered : goal.returns-clause-ordered
 returns-clause-ordered c =
