@@ -16,9 +16,9 @@ use Rattle.verilog_sites.specs.Refused.{IsPortTwice, IsUnknownName, InAssign, In
 use Rattle.bound_source.specs.declared.fault.BindFault.{BindFault}
 use Rattle.bound_source.specs.declared.fault.BindFault.TheVariants as fault
 use Rattle.bound_source.specs.Modules.{Setting, IsModuleNamed, IsFree, HasPorts}
-use Rattle.bound_source.specs.Faults.{Place, IsBefore, HasSites, HasReachedSites, IsDuplicate, OfModules, OfCell, Within, OfBits, HasNoTop, HasTwoTops, IsUnknownPort, NoDirection, NoListing, NoPort, HasTooMany, HasWidths}
+use Rattle.bound_source.specs.Faults.{Place, IsBefore, HasSites, HasReachedSites, IsDuplicate, OfModules, OfCell, Within, OfBits, HasNoTop, HasTwoTops, IsRing, IsUnknownPort, NoDirection, NoListing, NoPort, HasTooMany, HasWidths}
 use Rattle.bound_source.specs.First.{Line, Duplicates, Tops, Kinds, Rings, UnknownPorts, PortsTwice, TooManyLinks, UnknownNames, Ranges, Widths, WidthLimits, lines, StandsAt, StandsNowhere, HasNoFault, IsFirstFault}
-use Rattle.bound_laws.specs.Refusals.{IsRecursive, FaultIsOne}
+use Rattle.bound_laws.specs.Refusals.{BeginAlike, FaultIsOne}
 use Rattle.bound_laws.proofs.Lists.{one_got, got_all, got_left, got_within, piece_right}
 use Rattle.bound_laws.proofs.Ones.{single, sites_one, one_port, ports_are_one, widths_are_one}
 
@@ -195,7 +195,7 @@ no_top_free setting at is free none = let lone = subst (HasNoTop setting) is non
 -- ---- one fault at a place
 
 abbrev Answers : BindFault → BindFault → Type 0
-Answers why other = (why ≡ other) ⊎ (IsRecursive why × IsRecursive other)
+Answers why other = (why ≡ other) ⊎ BeginAlike why other
 
 by_name : (make : List ℕ → BindFault) (name given : List ℕ) (why other : BindFault) → why ≡ make name → other ≡ make given → name ≡ given → Answers why other
 by_name make name given why other e f same = inl (e ∙ (ap make same ∙ sym f))
@@ -222,6 +222,13 @@ wide_one setting none at all reached site width other g h =
 two_numbers : (make : ℕ → ℕ → BindFault) (a b c d : ℕ) (why other : BindFault) → why ≡ make a b → other ≡ make c d → (a ≡ c) × (b ≡ d) → Answers why other
 two_numbers make a b c d why other e f same = inl (e ∙ (ap (λ (n : ℕ). make n b) same.0 ∙ (ap (make c) same.1 ∙ sym f)))
 
+-- the rings of one place begin with its module
+rings_alike : (setting : Setting) (place : Place) (names others : List (List ℕ)) (why other : BindFault) → IsRing setting place names → IsRing setting place others → why ≡ fault.Recursive names → other ≡ fault.Recursive others → BeginAlike why other
+rings_alike setting place [] others why other g h e f = absurd g.names_are
+rings_alike setting place (name ∷ names) [] why other g h e f = absurd h.names_are
+rings_alike setting place (name ∷ names) (first ∷ others) why other g h e f =
+    record { first = name; names = names; others = others; why_is = e; other_is = f ∙ ap (λ (n : List ℕ). fault.Recursive (n ∷ others)) (named_one setting place.at first name h.names_are.0 g.names_are.0) }
+
 -- with the names of a cause known to be given once, but for that cause itself
 abbrev Knows : Setting → Line → Type 0
 Knows setting line = (line ≡ Duplicates) ⊎ StandsNowhere setting Duplicates
@@ -246,7 +253,7 @@ answers_one setting Kinds place why other knows least g h =
     let all_is = sites_one setting place.at a.all b.all a.sites_are.has b.sites_are.has in
     let there = subst (λ (l : List Site). IsAt l place.site (InstanceSite g.0 a.name a.links)) all_is a.there in
     by_name fault.NoSuchModule g.0 h.0 why other g.2 h.2 (kind_named b.all place.site g.0 h.0 a.name b.name a.links b.links there b.there).0
-answers_one setting Rings place why other knows least g h = inr ((g.0, g.2), (h.0, h.2))
+answers_one setting Rings place why other knows least g h = inr (rings_alike setting place g.0 h.0 why other g.1 h.1 g.2 h.2)
 answers_one setting UnknownPorts place why other knows least g h =
     let all = h.1.0 in
     let a = moved setting place.at (λ all. IsUnknownPort setting all place.site g.0) g.1 all h.1.1.has in

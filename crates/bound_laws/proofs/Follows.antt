@@ -8,8 +8,8 @@ use Rattle.verilog_tree.specs.Trees as tree
 use Rattle.verilog_sites.specs.Sites.{Operand, operands, Site, Module, Listed, Port, Wire, Assign, Instance as InstanceSite, Named, Ordered, Assigned, Linked, is_output, listed_port, port_names, port_sites, full_sites, head_sites, assign_sites, linked_sites, named_sites, ordered_sites, link_sites, instance_sites, item_sites, sites}
 use Rattle.verilog_sites.specs.Scope.{IsAt}
 use Rattle.bound_source.specs.Binds.{item_assigns, item_instances}
-use Rattle.bound_laws.specs.Standing.{IsPieceAt}
-use Rattle.bound_laws.specs.Homes.{IsFollowed, SitesAreFollowed, HasNoInstanceBetween, OfNamedLink, OfOrderedLink, HasHome, SitesHaveHomes, IsListed, SitesAreListed}
+use Rattle.bound_laws.proofs.Standing.{IsPieceAt}
+use Rattle.bound_laws.proofs.Homes.{IsFollowed, HasNoInstanceBetween, OfNamedLink, OfOrderedLink, HasHome, SitesHaveHomes, IsListed, SitesAreListed}
 use Rattle.bound_laws.proofs.Lists.{joined_got, map_got, got_map, got_within, one_got, got_numbered, flat_placed, piece_self, piece_behind, piece_in, piece_flat}
 use Rattle.bound_laws.proofs.Pieces.{item_stands, instances_are_apart}
 
@@ -260,9 +260,6 @@ both owner at site e = elim (belongs owner at site e) [
     | inr h ↦ subst (λ (n : ℕ). Both (sites owner) n site) h.7 (both_in (sites owner) (item_sites h.1) h.5 h.2 site h.6 h.4 (in_item h.1 h.2 site h.4))
   ]
 ]
-
-pub sites_are_followed : SitesAreFollowed
-sites_are_followed owner at site e = (both owner at site e).0
 
 pub sites_have_homes : SitesHaveHomes
 sites_have_homes owner at site e = (both owner at site e).1

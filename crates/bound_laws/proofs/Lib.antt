@@ -1,3 +1,6 @@
+pub mod Standing
+pub mod Homes
+pub mod Single
 pub mod Lists
 pub mod Pieces
 pub mod Owners

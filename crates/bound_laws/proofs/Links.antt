@@ -21,8 +21,8 @@ use Rattle.bound_source.specs.Modules.{Setting, IsModuleNamed, IsCellNamed, Mean
 use Rattle.bound_source.specs.Binds.{Binds, BindsPort, BindsKind, BindsNamed, BindsOrdered, BindsLinks, BindsInstance, named_exprs, ordered_exprs, item_instances}
 use Rattle.bound_source.specs.Faults.{HasReachedSites, PortWidth, OfModulePort, OfPin, OfNamed, OfOrdered}
 use Rattle.bound_source.specs.First.{HasNoFault}
-use Rattle.bound_laws.specs.Standing.{IsPieceAt}
-use Rattle.bound_laws.specs.Single.{KnowsRanges}
+use Rattle.bound_laws.proofs.Standing.{IsPieceAt}
+use Rattle.bound_laws.proofs.Single.{KnowsRanges}
 use Rattle.bound_laws.specs.Laws.{InstancesFit}
 use Rattle.bound_laws.proofs.Lists.{got_map, got_within, one_got, got_numbered, all_got, pairs_got, zip_right, zip_left, picked_got, picked_pair}
 use Rattle.bound_laws.proofs.Pieces.{instances_stand, named_links_stand, ordered_links_stand, instances_are_apart}

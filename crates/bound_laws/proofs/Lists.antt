@@ -164,12 +164,6 @@ zip_joined R [] (y ∷ ys) vs ws g h = absurd g
 zip_joined R (x ∷ xs) [] vs ws g h = absurd g
 zip_joined R (x ∷ xs) (y ∷ ys) vs ws g h = (g.0, zip_joined R xs ys vs ws g.1 h)
 
-pub zip_weaker : {X Y : Type 0} (R S : X → Y → Type 0) (xs : List X) (ys : List Y) → ((x : X) (y : Y) → R x y → S x y) → AllZip R xs ys → AllZip S xs ys
-zip_weaker R S [] [] f h = tt
-zip_weaker R S [] (y ∷ ys) f h = absurd h
-zip_weaker R S (x ∷ xs) [] f h = absurd h
-zip_weaker R S (x ∷ xs) (y ∷ ys) f h = (f x y h.0, zip_weaker R S xs ys f h.1)
-
 -- ---- items that are picked
 
 -- an item that was picked comes from an item

@@ -20,12 +20,10 @@ use Rattle.bound_source.specs.Binds.{item_instances}
 use Rattle.bound_source.specs.Faults.{HasSites, HasReachedSites, PortWidth, OfModulePort, OfPin, OfAssign, OfNamed, OfOrdered, Within}
 use Rattle.bound_source.specs.First.{Duplicates, StandsNowhere}
 use Rattle.bound_source.specs.declared.fault.BindFault.TheVariants as fault
-use Rattle.bound_laws.specs.Homes.{IsListed}
-use Rattle.bound_laws.specs.Single.{HasNoDouble, RangesAreOne, ExprWidthsAreOne, PortsAreOne, InnerAreReached, WidthsAreOne, WiresKnowRanges, PartsHaveWidths, PortsAreListed}
+use Rattle.bound_laws.proofs.Homes.{IsListed}
+use Rattle.bound_laws.proofs.Single.{HasNoDouble, RangesAreOne, ExprWidthsAreOne, PortsAreOne, InnerAreReached, WidthsAreOne}
 use Rattle.bound_laws.proofs.Lists.{got_contains, one_got, flat_got}
 use Rattle.bound_laws.proofs.Pieces.{instance_item}
-use Rattle.bound_laws.proofs.Widths.{knows_ranges, expr_width}
-use Rattle.bound_laws.proofs.Assigns.{port_listed, ports_listed}
 use Rattle.bound_laws.proofs.Links.{means_one, cell_one}
 use Rattle.bound_laws.proofs.Follows.{sites_have_homes, sites_are_listed}
 
@@ -215,14 +213,3 @@ widths_are_one setting at all site have want other_have other_want none r (OfOrd
 widths_are_one setting at all site have want other_have other_want none r (OfOrdered kind place expr names name there a b p q) (OfNamed kind_too name_too expr_too there_too c d) = absurd (differ (one_got all site (Ordered kind place (Some expr)) (Named kind_too name_too (Some expr_too)) there there_too)) where
   differ : Ordered kind place (Some expr) ≡ Named kind_too name_too (Some expr_too) → ⊥
   differ e = cc
-
--- ---- bound modules
-
-pub wires_know_ranges : WiresKnowRanges
-wires_know_ranges = knows_ranges
-
-pub parts_have_widths : PartsHaveWidths
-parts_have_widths all wires expr parts ranges b = expr_width all wires ranges expr parts b
-
-pub ports_are_listed : PortsAreListed
-ports_are_listed owner = (port_listed owner, ports_listed owner)

@@ -7,7 +7,7 @@ use Rattle.verilog_tree.specs.Trees as tree
 use Rattle.verilog_sites.specs.Sites.{Operand, Module, Instance as InstanceSite, Linked, operands, head_sites, assign_sites, linked_sites, named_sites, ordered_sites, link_sites, instance_sites, item_sites, sites}
 use Rattle.verilog_sites.specs.Scope.{IsAt}
 use Rattle.bound_source.specs.Binds.{item_assigns, item_instances}
-use Rattle.bound_laws.specs.Standing.{IsPieceAt, AssignsStand, InstancesStand, NamedLinksStand, OrderedLinksStand, InstancesAreApart}
+use Rattle.bound_laws.proofs.Standing.{IsPieceAt, AssignsStand, InstancesStand, NamedLinksStand, OrderedLinksStand, InstancesAreApart}
 use Rattle.bound_laws.proofs.Lists.{map_got, numbered_got, flat_got, piece_right, piece_tail, piece_behind, piece_in, piece_flat, flat_rises}
 
 -- the sites of an item stand in a module's

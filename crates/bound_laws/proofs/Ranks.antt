@@ -4,9 +4,7 @@ use Rattle.std.specs.Prelude.{slice_get, nat_eq}
 use Rattle.std.specs.List.{Contains, flat_map}
 use Rattle.std.proofs.lemmas.Bool.Decides.{nat_tests}
 use Rattle.std.proofs.lemmas.Option.{same_Some, slice_get_within, get_or_from_slice_get}
-use Rattle.std.proofs.lemmas.List.Elements.{Contains-get_or}
 use Rattle.verilog_tree.specs.Trees as tree
-use Rattle.module_tree.specs.Modules as hierarchy
 use Rattle.bound_source.specs.declared.bound.BoundKind.TheVariants as kind
 use Rattle.bound_source.specs.declared.bound.Bound.{Bound}
 use Rattle.bound_source.specs.WellFormed.{Instantiates as BoundInstantiates}

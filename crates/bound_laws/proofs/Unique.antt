@@ -25,7 +25,7 @@ use Rattle.bound_source.specs.Modules.{Setting, IsReached, HasPorts, OfModule, O
 use Rattle.bound_source.specs.Binds.{BindsSelect, BindsOperand, BindsExpr, BindsAssign, BindsNamed, BindsOrdered, BindsLinks, BindsKind, BindsInstance, BindsPort, MakesWire, ByDeclaration, ByUse, IsUsedAt, AreOthers, BindsModule, BindsModuleAt, Binds, named_exprs, ordered_exprs, item_assigns, item_instances}
 use Rattle.bound_source.specs.Faults.{HasReachedSites}
 use Rattle.bound_source.specs.First.{Duplicates, StandsNowhere}
-use Rattle.bound_laws.specs.Single.{HasNoDouble}
+use Rattle.bound_laws.proofs.Single.{HasNoDouble}
 use Rattle.bound_laws.specs.Laws.{BoundIsOne}
 use Rattle.bound_laws.proofs.Lists.{Pairs, joined_got, map_got, one_got, got_pairs, got_all, got_contains, contains_got, zip_left, zip_right}
 use Rattle.bound_laws.proofs.Links.{means_one, cell_one}

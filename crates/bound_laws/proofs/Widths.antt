@@ -15,7 +15,7 @@ use Rattle.bound_source.specs.declared.bound.BoundModule.{BoundModule}
 use Rattle.bound_source.specs.WellFormed.{port_wire, IsPartOf, IsPart, parts_width}
 use Rattle.bound_source.specs.Modules.{Setting}
 use Rattle.bound_source.specs.Binds.{BindsSelect, BindsOperand, BindsExpr, BindsPort, MakesWire, ByDeclaration, ByUse, BindsModule}
-use Rattle.bound_laws.specs.Single.{KnowsRanges}
+use Rattle.bound_laws.proofs.Single.{KnowsRanges}
 use Rattle.bound_laws.proofs.Lists.{joined_got, map_got, all_got, zip_right, zip_joined}
 
 -- ---- parts lie within their wires

@@ -131,7 +131,7 @@ bind_agree law table top text tree fault has only first (refusal.Parse place) kn
 bind_agree law table top text tree fault has only first (refusal.Bind other) known is =
     elim (law.0 (setting tree table top) fault other first (subst (λ (t : List Module). IsFirstFault (setting t table top) other) (only is.tree is.has_tree) is.first)) [
       | inl same ↦ inl (ap refusal.Bind same)
-      | inr rings ↦ inr (inl ((rings.0.0, ap refusal.Bind rings.0.1), (rings.1.0, ap refusal.Bind rings.1.1)))
+      | inr rings ↦ inr (inl (record { first = rings.first; names = rings.names; others = rings.others; one_is = ap refusal.Bind rings.why_is; other_is = ap refusal.Bind rings.other_is }))
     ]
 bind_agree law table top text tree fault has only first (refusal.Flat other) known is =
     absurd (no_first_fault (setting tree table top) fault (subst (λ (t : List Module). HasNoFault (setting t table top)) (only is.has_bound.tree is.has_bound.has_tree) is.has_bound.clean) first)

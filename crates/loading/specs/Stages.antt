@@ -1,5 +1,5 @@
 -- What the text of a netlist comes to, stage by stage, and which refusal comes where a stage has none.
-use Rattle.std.specs.Prelude.{◌≡◌, ◌≢◌, ◌⊎◌, ℕ, List, length, slice_get, Option, ⊤}
+use Rattle.std.specs.Prelude.{◌≡◌, ◌≢◌, ◌⊎◌, ℕ, List, ◌∷◌, length, slice_get, Option, ⊤}
 use Rattle.std.specs.Option.{option_map_or}
 use Rattle.rsfq_ids.specs.declared.table.CellTable.{CellTable}
 use Rattle.rsfq_ids.specs.declared.circuit.Flat.{Flat}
@@ -83,13 +83,18 @@ IsRefused table top text (refusal.Bind why) = IsUnbound table top text why
 IsRefused table top text (refusal.Flat why) = HasNoCircuit table top text why
 IsRefused table top text refusal.Memory = ⊤
 
--- it names a ring of modules, or one of wire bits
-abbrev pub NamesModules : Refusal → Type 0
-NamesModules why = (names : List (List ℕ)) × (why ≡ refusal.Bind (bind_fault.Recursive names))
+-- both name a ring of modules, from one first module on
+pub record BeginAlike (one other : Refusal) : Type 0 where
+  pub first : List ℕ
+  pub names : List (List ℕ)
+  pub others : List (List ℕ)
+  pub one_is : one ≡ refusal.Bind (bind_fault.Recursive (first ∷ names))
+  pub other_is : other ≡ refusal.Bind (bind_fault.Recursive (first ∷ others))
 
+-- it names a ring of wire bits
 abbrev pub NamesWires : Refusal → Type 0
 NamesWires why = (wires : List (List ℕ)) × (why ≡ refusal.Flat (flat_fault.AliasLoop wires))
 
--- The two refusals are the same, but that of several rings each may name another one.
+-- The two refusals are the same, or both name a ring: of modules, with one first module, or of wire bits.
 abbrev pub AgreeButRings : Refusal → Refusal → Type 0
-AgreeButRings one other = (one ≡ other) ⊎ ((NamesModules one × NamesModules other) ⊎ (NamesWires one × NamesWires other))
+AgreeButRings one other = (one ≡ other) ⊎ (BeginAlike one other ⊎ (NamesWires one × NamesWires other))

@@ -76,8 +76,8 @@ fn read_tree(alloc: Global, text: &[u8]) -> Result<Source, Refusal>
 /// # Errors
 ///
 /// The refusal of the first stage that refuses: `Lex`, `Parse`, `Bind`, `Flat`, each with its first fault; and then the text has no circuit,
-/// and no other refusal but `Memory` and, where there are several rings of modules or of wire bits, that of another ring. What has a circuit
-/// has no refusal. `Memory` where memory could not be had.
+/// and no other refusal but `Memory` and, where a ring is named, that of a ring: of modules, with the same first module, or of wire bits.
+/// What has a circuit has no refusal. `Memory` where memory could not be had.
 pub fn load_circuit(
     alloc: Global,
     text: &[u8],

@@ -1,15 +1,11 @@
 -- What is the only one of its sort: ranges, widths and ports by their names.
-use Rattle.std.specs.Prelude.{◌≡◌, ◌<◌, ℕ, List, slice_get, Option, Some}
-use Rattle.verilog_tree.specs.Trees.{Module, Expr, Links}
-use Rattle.verilog_sites.specs.Sites.{Site, Listed, Instance as InstanceSite, port_names, sites}
+use Rattle.std.specs.Prelude.{◌≡◌, ℕ, List, slice_get, Option, Some}
+use Rattle.verilog_tree.specs.Trees.{Expr, Links}
+use Rattle.verilog_sites.specs.Sites.{Site, Instance as InstanceSite}
 use Rattle.verilog_sites.specs.Scope.{IsAt, HasRange, ExprWidth}
 use Rattle.verilog_sites.specs.Again.{IsAgain}
 use Rattle.bound_source.specs.declared.bound.BoundWire.{BoundWire}
-use Rattle.bound_source.specs.declared.bound.BoundPart.{BoundPart}
-use Rattle.bound_source.specs.declared.bound.BoundModule.{BoundModule}
-use Rattle.bound_source.specs.WellFormed.{parts_width}
 use Rattle.bound_source.specs.Modules.{Setting, MeansModule, IsReached, HasPorts}
-use Rattle.bound_source.specs.Binds.{BindsExpr, BindsModule}
 use Rattle.bound_source.specs.Faults.{HasReachedSites, HasWidths}
 use Rattle.bound_source.specs.First.{Duplicates, StandsNowhere}
 
@@ -42,17 +38,3 @@ WidthsAreOne = (setting : Setting) (at : ℕ) (all : List Site) (site have want 
 -- each wire of a list has the range of its name
 abbrev pub KnowsRanges : List Site → List BoundWire → Type 0
 KnowsRanges all wires = (k : ℕ) (wire : BoundWire) → slice_get wires k ≡ Some wire → HasRange all wire.name wire.range
-
--- The wires of a bound module have the ranges of their names.
-abbrev pub WiresKnowRanges : Type 0
-WiresKnowRanges = (setting : Setting) (places : List ℕ) (owner : Module) (bound : BoundModule) → BindsModule setting places owner bound → KnowsRanges (sites owner) bound.wires
-
--- The width of an expression is that of its parts.
-abbrev pub PartsHaveWidths : Type 0
-PartsHaveWidths = (all : List Site) (wires : List BoundWire) (expr : Expr) (parts : List BoundPart) → KnowsRanges all wires → BindsExpr wires expr parts → ExprWidth all expr (parts_width parts)
-
--- The ports of a head are listed among the sites, the later one at the later place.
-abbrev pub PortsAreListed : Type 0
-PortsAreListed = (owner : Module) → ((p : ℕ) (name : List ℕ) → slice_get (port_names owner.head) p ≡ Some name → (at : ℕ) × IsAt (sites owner) at (Listed name))
-    × ((p q : ℕ) (one other : List ℕ) → p < q → slice_get (port_names owner.head) p ≡ Some one → slice_get (port_names owner.head) q ≡ Some other
-    → (a b : ℕ) × (a < b) × IsAt (sites owner) a (Listed one) × IsAt (sites owner) b (Listed other))

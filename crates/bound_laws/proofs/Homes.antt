@@ -5,7 +5,7 @@ use Rattle.verilog_tree.specs.Trees as tree
 use Rattle.verilog_sites.specs.Sites.{Operand, operands, Site, Listed, Assign, Instance as InstanceSite, Named, Ordered, Assigned, Linked, assign_sites, named_sites, ordered_sites, instance_sites, port_names, sites}
 use Rattle.verilog_sites.specs.Scope.{IsAt}
 use Rattle.bound_source.specs.Binds.{item_assigns, item_instances}
-use Rattle.bound_laws.specs.Standing.{IsPieceAt}
+use Rattle.bound_laws.proofs.Standing.{IsPieceAt}
 
 -- what follows a site: the links of an instance, the operands of a link, or those of an assign
 abbrev pub IsFollowed : List Site → ℕ → Site → Type 0
@@ -14,10 +14,6 @@ IsFollowed all at (InstanceSite kind name links) = IsPieceAt all at (instance_si
 IsFollowed all at (Named kind name expr) = IsPieceAt all at (named_sites kind (record { name = name; expr = expr }))
 IsFollowed all at (Ordered kind place expr) = IsPieceAt all at (ordered_sites kind (place, expr))
 IsFollowed all at _ = ⊤
-
--- Behind each site of a module stands what belongs to it.
-abbrev pub SitesAreFollowed : Type 0
-SitesAreFollowed = (owner : tree.Module) (at : ℕ) (site : Site) → IsAt (sites owner) at site → IsFollowed (sites owner) at site
 
 -- no instance stands between two places
 abbrev pub HasNoInstanceBetween : List Site → ℕ → ℕ → Type 0
