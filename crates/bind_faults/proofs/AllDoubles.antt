@@ -16,7 +16,7 @@ use Rattle.kind_ports.specs.declared.design.Design.{Design}
 use Rattle.kind_ports.specs.Design.{setting_of}
 use Rattle.bind_faults.specs.declared.doubles.Double.{Double}
 use Rattle.bind_faults.specs.Order.{IsClear, IsFirstAt, Answers}
-use Rattle.bind_faults.specs.Doubles.{place_of, IsFirstOf, IsKindTwice, IsWithin, IsTopBit, TellsDouble, is_before, first_of}
+use Rattle.bind_faults.specs.Doubles.{place_of, IsFirstOf, IsKindTwice, IsWithin, IsTopBit, is_before, first_of}
 use Rattle.bind_faults.specs.Doubles as twice
 use Rattle.bind_faults.specs.Design.{IsTold}
 use Rattle.bind_faults.proofs.Order.{first_fault, clear_none, clear_more}

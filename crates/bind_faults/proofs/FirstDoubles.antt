@@ -14,7 +14,7 @@ use Rattle.bound_source.specs.Faults.{Place, HasSites}
 use Rattle.kind_ports.specs.declared.design.Design.{Design}
 use Rattle.kind_ports.specs.Design.{setting_of}
 use Rattle.kind_ports.specs.Ports.{HasFirstDouble}
-use Rattle.bind_faults.specs.Doubles.{place_of, IsFirstOf, IsKindTwice, IsWithin, IsTopBit, TellsDouble, IsDoubleAt, is_before, first_of}
+use Rattle.bind_faults.specs.Doubles.{IsFirstOf, IsKindTwice, IsWithin, IsTopBit, TellsDouble, IsDoubleAt}
 use Rattle.bind_faults.specs.Doubles as twice
 use Rattle.bind_faults.specs.Design.{IsTold}
 use Rattle.bind_faults.proofs.Places.{one_list, zip_at}

@@ -8,7 +8,7 @@ use Rattle.std.proofs.lemmas.List.Elements.{All-cons, All-nil}
 use Rattle.std.proofs.lemmas.Option.{slice_get_within}
 use Rattle.verilog_tree.specs.Trees.{Module}
 use Rattle.module_tree.specs.Modules as hierarchy
-use Rattle.module_tree.specs.Modules.{Instantiates, IsChain, IsOnRing}
+use Rattle.module_tree.specs.Modules.{IsChain, IsOnRing}
 use Rattle.module_tree.specs.Reach.{IsFirstRing}
 use Rattle.bound_source.specs.declared.fault.BindFault.TheVariants as fault
 use Rattle.bound_source.specs.Modules.{Setting, IsModuleNamed, IsTop, IsReached}

@@ -11,7 +11,7 @@ use Rattle.bind_faults.specs.declared.check.Check.{Check}
 use Rattle.bind_faults.specs.declared.check.Check.TheVariants.{PortsTwice, EachSite}
 use Rattle.bind_faults.specs.declared.check.SiteCheck.TheVariants as site
 use Rattle.bind_faults.specs.Order.{IsFirstAt}
-use Rattle.bind_faults.specs.Checks.{line_of, StandsIn, HasNoneBefore, IsFirstIn}
+use Rattle.bind_faults.specs.Checks.{line_of, StandsIn, IsFirstIn}
 use Rattle.bind_faults.proofs.Places.{one_list}
 
 -- a cause of this sort stands in the sites of a reached module
@@ -39,12 +39,6 @@ from_line (EachSite site.Widths) setting place why s = (s.2.0, s.2.1, (s.0, s.1,
 from_line (EachSite site.WidthLimits) setting place why s = (s.1.0, s.1.1, (s.0, s.1.2, s.2))
 
 -- ---- site by site
-
-pub site_more : (check : Check) (setting : Setting) (all : List Site) (at : ℕ) → ((why : BindFault) → ¬ StandsIn check setting all at why) → HasNoneBefore check setting all at → HasNoneBefore check setting all (at + 1)
-site_more check setting all at here before = λ site why l stands. elim (cases_lt site at) [
-  | inl low ↦ before site why low stands
-  | inr high ↦ let same : site ≡ at = omega (arith, l, high) in here why (subst (λ (n : ℕ). StandsIn check setting all n why) same stands)
-]
 
 -- ---- module by module
 

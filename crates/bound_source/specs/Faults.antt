@@ -1,12 +1,12 @@
 -- When a source cannot be bound: one predicate for each cause, over the site where it stands. The causes that need no other module stand in
 -- verilog_sites: Refused.antt and Again.antt.
-use Rattle.std.specs.Prelude.{◌≡◌, ◌≢◌, ◌⊎◌, ℕ, Bool, ◌<◌, List, [], ◌∷◌, length, slice_get, Option, Some, None}
+use Rattle.std.specs.Prelude.{◌≡◌, ◌≢◌, ◌⊎◌, ℕ, Bool, ◌<◌, List, ◌∷◌, length, slice_get, Option, Some, None}
 use Rattle.std.specs.List.{All, AllPairs, AllZip, Contains}
 use Rattle.verilog_tree.specs.Trees.{Module, Expr, Links, Ordered as OrderedLinks}
-use Rattle.verilog_sites.specs.Sites.{Operand, Site, Listed, Port, Wire, Assign, Instance, Named, Ordered, Assigned, Linked, sites}
-use Rattle.verilog_sites.specs.Selects.{width_of, Selects}
+use Rattle.verilog_sites.specs.Sites.{Site, Listed, Port, Assign, Instance, Named, Ordered, sites}
+use Rattle.verilog_sites.specs.Selects.{width_of}
 use Rattle.verilog_sites.specs.Again.{IsAgain, IsBitAgain}
-use Rattle.verilog_sites.specs.Scope.{IsAt, Stands, StandsBefore, IsPort, HasDirection, IsKnown, HasRange, ExprWidth}
+use Rattle.verilog_sites.specs.Scope.{IsAt, Stands, IsPort, HasDirection, ExprWidth}
 use Rattle.module_tree.specs.Modules.{IsChain}
 use Rattle.bound_source.specs.Modules.{Setting, IsModuleNamed, IsCellNamed, MeansModule, MeansCell, IsFree, IsTop, IsReached, HasPorts}
 

@@ -1,5 +1,5 @@
 -- The links of a module are of the instances that stand last before them.
-use Rattle.std.proofs.Common.{◌≡◌, ℕ, Bool, List, [], ◌∷◌, ◌++◌, map, replicate, length, Option, Some, None, refl, sym, ◌∙◌, ap, subst, append_assoc}
+use Rattle.std.proofs.Common.{◌≡◌, ℕ, Bool, List, [], ◌∷◌, ◌++◌, map, Option, Some, None, refl, sym, subst, append_assoc}
 use Rattle.std.specs.List.{AllZip, flat_map, enumerate_from}
 use Rattle.verilog_tree.specs.Trees as tree
 use Rattle.verilog_sites.specs.Sites.{operands, Site, Module, Listed, Port, Wire, Assign, Instance, Named, Ordered, Assigned, Linked, is_output, port_sites, full_sites, head_sites, assign_sites, linked_sites, named_sites, ordered_sites, link_sites, instance_sites, item_sites, sites}

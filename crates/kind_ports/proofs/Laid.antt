@@ -1,10 +1,10 @@
 -- Lists that are made module by module, beside the modules of the text.
-use Rattle.std.proofs.Common.{◌≡◌, ℕ, ◌+◌, ◌<◌, ◌≤◌, List, [], ◌∷◌, ◌++◌, map, take, replicate, length, get_or, Option, Some, None, Result, Ok, Err, OnOk, refl, sym, ◌∙◌, ap, subst, arith, Bor}
+use Rattle.std.proofs.Common.{◌≡◌, ℕ, ◌+◌, ◌<◌, List, [], ◌∷◌, ◌++◌, map, replicate, length, get_or, Option, Some, None, Result, Ok, Err, OnOk, refl, sym, ◌∙◌, ap, subst, arith, Bor}
 use Rattle.std.specs.Prelude.{slice_get}
 use Rattle.std.specs.Option.{option_copied, option_map}
 use Rattle.std.specs.List.{AllZip, flat_map}
 use Rattle.std.proofs.lemmas.List.{length-map}
-use Rattle.std.proofs.lemmas.Option.{slice_get-map, slice_get_read, slice_get_within, slice_get-get_or}
+use Rattle.std.proofs.lemmas.Option.{slice_get-map, slice_get_read, slice_get-get_or}
 use Rattle.verilog_tree.specs.declared.tree.Module.{Module as CodeModule}
 use Rattle.verilog_tree.specs.declared.tree.Item.{Item as CodeItem}
 use Rattle.verilog_tree.specs.declared.tree.Instance.{Instance as CodeInstance}
@@ -58,9 +58,6 @@ owner_there all modules at one same near =
       blank : (l : List Module) (n : ℕ) → n < length l → Module
       blank [] n lt = absurd (omega (arith, lt))
       blank (m ∷ l) n lt = m
-
-pub as_many : (all : List Sites) (modules : List Module) → map all_sites all ≡ map sites modules → length modules ≡ length all
-as_many all modules same = sym (sym (length-map all all_sites) ∙ ap length same ∙ length-map modules sites)
 
 -- ---- widths
 

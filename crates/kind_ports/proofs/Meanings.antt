@@ -54,11 +54,6 @@ ports_by setting kind one names means ports =
     let other = meaning_of setting kind names ports in
     subst (λ (m : Option Meaning). PortsBy setting m names) (one_kind setting.modules setting.table kind (Some other.0) one other.1 means) other.2
 
-pub by_ports : (setting : Setting) (kind : List ℕ) (one : Option Meaning) (names : List (List ℕ)) → Means setting.modules setting.table kind one → PortsBy setting one names → HasPorts setting kind names
-by_ports setting kind None names means by = absurd by
-by_ports setting kind (Some (meaning.Module at)) names means by = OfModule at by.0 means by.1 by.2
-by_ports setting kind (Some (meaning.Cell row)) names means by = OfCell row by.0 means by.1 by.2
-
 pub one_row : {A : Type 0} (rows : List A) (at : ℕ) (a b : A) → slice_get rows at ≡ Some a → slice_get rows at ≡ Some b → a ≡ b
 one_row rows at a b h k = some_same (sym h ∙ k) where
   some_same : Some a ≡ Some b → a ≡ b

@@ -1,7 +1,6 @@
 -- First places of names, in a list that is read place by place.
-use Rattle.std.proofs.Common.{◌≡◌, ◌≢◌, ◌⊎◌, inl, inr, ℕ, ◌+◌, ◌<◌, ◌≤◌, Bool, true, false, cond, length, List, Option, Some, None, refl, sym, ◌∙◌, ap, subst, arith, Bor}
+use Rattle.std.proofs.Common.{◌≡◌, ◌≢◌, ◌⊎◌, inl, inr, ℕ, ◌+◌, ◌<◌, ◌≤◌, Bool, true, false, cond, length, List, Option, Some, None, refl, sym, ◌∙◌, subst, arith}
 use Rattle.std.specs.Prelude.{slice_get}
-use Rattle.std.specs.Option.{option_copied}
 use Rattle.std.specs.Str.{bytes_eq}
 use Rattle.std.proofs.lemmas.Option.{slice_get_within}
 use Rattle.std.proofs.lemmas.Slice.Eq.{bytes_eq-Decides}
@@ -52,17 +51,6 @@ seen_more names limit seen old new is sees before = λ name.
             other : bytes_eq seen name ≡ true → ⊥
             other t = absurd cc
 
--- a place without a name
-pub past_more : (names : List (List ℕ)) (limit : ℕ) (old : FirstNames) → slice_get names limit ≡ None → AreFirstBelow names limit old → AreFirstBelow names (limit + 1) old
-past_more names limit old is before = λ name. kept names limit name (place_of old name) (λ here. never (sym is ∙ here)) (before name)
-
 pub first_of : (names : List (List ℕ)) (limit : ℕ) (name : List ℕ) (place : Option ℕ) → length names ≤ limit → IsFirstBelow names limit name place → IsFirstPlace names name place
 first_of names limit name None all h = λ at is. h at (let near : at < length names = slice_get_within names at name is in omega arith) is
 first_of names limit name (Some place) all h = (h.1, h.2)
-
--- the place that the code reads
-pub read_some : (o : Option (Bor (List ℕ))) (p : Option (List ℕ)) (name : Bor (List ℕ)) → option_copied o ≡ p → o ≡ Some name → p ≡ Some name.now
-read_some o p name is some = sym is ∙ ap option_copied some
-
-pub read_none : (o : Option (Bor (List ℕ))) (p : Option (List ℕ)) → option_copied o ≡ p → o ≡ None → p ≡ None
-read_none o p is none = sym is ∙ ap option_copied none

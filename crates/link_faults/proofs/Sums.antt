@@ -1,7 +1,7 @@
 -- The width of several operands together.
 use Rattle.std.proofs.Common.{◌≡◌, ℕ, ◌+◌, ◌*◌, ◌^◌, ◌<◌, ◌≤◌, List, [], ◌∷◌, ◌++◌, length, take, drop, get_or, sum, refl, sym, ◌∙◌, ap, subst, arith, append-nil, length-append}
 use Rattle.std.specs.List.{AllZip}
-use Rattle.std.proofs.lemmas.List.{take-append-drop, take_more, take_all}
+use Rattle.std.proofs.lemmas.List.{take-append-drop, take_more}
 use Rattle.std.proofs.lemmas.List.Sums.{sum_by-append}
 use Rattle.std.proofs.lemmas.List.Concat.{flat_map-append}
 use Rattle.verilog_tree.specs.declared.tree.Expr as code
@@ -121,7 +121,3 @@ part_few parts at part near is few =
 -- an expression without a width
 pub part_lacks : (all : List Site) (parts : List code.Expr) (at : ℕ) (part : code.Expr) → at < length parts → part ≡ get_or parts at part → ((w : ℕ) → ¬ ExprWidth all (view_expr part) w) → (w : ℕ) → ¬ HaveWidth all (all_operands parts) w
 part_lacks all parts at part near is none = λ w has. let here = part_has all parts at part w near is has in none here.0 here.1
-
--- all of them
-pub sum_all : (all : List Site) (parts : List code.Expr) (at width : ℕ) → length parts ≤ at → IsSum all (take at parts) width → IsSum all parts width
-sum_all all parts at width past is = subst (λ (l : List code.Expr). IsSum all l width) (take_all at parts past) is

@@ -45,11 +45,6 @@ adds_named setting kind wires link expr old new bound is binds pushed names befo
     subst (λ (l : List (List ℕ × tree.Expr)). AllZip (BindsNamed names wires) (before ++ l) new) (sym one)
     (subst (λ (l : List BoundLink). AllZip (BindsNamed names wires) (before ++ (link.name, expr) ∷ []) l) (sym pushed) (zip_push (BindsNamed names wires) before old (link.name, expr) bound done (binds names ports)))
 
-pub adds_no_named : (setting : Setting) (kind : List ℕ) (wires : List BoundWire) (link : tree.NamedLink) (old : List BoundLink) → link.expr ≡ None → AddsNamed setting kind wires link old old
-adds_no_named setting kind wires link old is names before ports done =
-    let none : named_exprs (link ∷ []) ≡ [] = rw is refl in
-    subst (λ (l : List (List ℕ × tree.Expr)). AllZip (BindsNamed names wires) l old) (sym (ap (λ (l : List (List ℕ × tree.Expr)). before ++ l) none ∙ append_none before)) done
-
 -- so many links by name are bound
 abbrev pub NamedTo : Setting → List ℕ → List BoundWire → List tree.NamedLink → List BoundLink → Type 0
 NamedTo setting kind wires links bound = (names : List (List ℕ)) → HasPorts setting kind names → AllZip (BindsNamed names wires) (named_exprs links) bound
@@ -77,11 +72,6 @@ adds_ordered wires place link expr old new bound is port parts pushed before don
     subst (λ (l : List (ℕ × tree.Expr)). AllZip (BindsOrdered wires) (before ++ l) new) (sym one)
     (subst (λ (l : List BoundLink). AllZip (BindsOrdered wires) (before ++ (place, expr) ∷ []) l) (sym pushed)
     (zip_push (BindsOrdered wires) before old (place, expr) bound done (record { port = port; parts = parts })))
-
-pub adds_no_ordered : (wires : List BoundWire) (place : ℕ) (link : Option tree.Expr) (old : List BoundLink) → link ≡ None → AddsOrdered wires (place, link) old old
-adds_no_ordered wires place link old is before done =
-    let none : filter_map ordered_expr ((place, link) ∷ []) ≡ [] = rw is refl in
-    subst (λ (l : List (ℕ × tree.Expr)). AllZip (BindsOrdered wires) l old) (sym (ap (λ (l : List (ℕ × tree.Expr)). before ++ l) none ∙ append_none before)) done
 
 abbrev pub OrderedTo : List BoundWire → List (ℕ × Option tree.Expr) → List BoundLink → Type 0
 OrderedTo wires links bound = AllZip (BindsOrdered wires) (filter_map ordered_expr links) bound

@@ -88,9 +88,6 @@ all_at P xs x k h e = subst P (get_or_from_slice_get xs k x x e) (h k x (slice_g
 pub read_at : {X Y : Type 0} (v : X → Y) (xs : List X) (k : ℕ) (x : X) → k < length xs → x ≡ get_or xs k x → slice_get (map v xs) k ≡ Some (v x)
 read_at v xs k x lt is = slice_get-map v xs k ∙ ap (option_map v) (slice_get-get_or xs k x lt ∙ ap Some (sym is))
 
-pub read_or : {X Y : Type 0} (v : X → Y) (xs : List X) (k : ℕ) (d : X) → k < length xs → slice_get (map v xs) k ≡ Some (v (get_or xs k d))
-read_or v xs k d lt = slice_get-map v xs k ∙ ap (option_map v) (slice_get-get_or xs k d lt)
-
 -- what follows from what a clause says of an `Ok`
 pub after : {A E : Type 0} (r : Result A E) {P Q : Type 0} → OnOk r P → (P → Q) → OnOk r Q
 after (Ok a) p f = f p

@@ -3,7 +3,7 @@ use Rattle.std.proofs.Common.{◌≡◌, ◌≢◌, ◌⊎◌, inl, inr, ℕ, �
 use Rattle.std.specs.Prelude.{slice_get}
 use Rattle.std.specs.Str.{bytes_eq}
 use Rattle.std.specs.List.{AllZip, Contains, filter_map}
-use Rattle.std.proofs.lemmas.List.{take_all, map_push}
+use Rattle.std.proofs.lemmas.List.{map_push}
 use Rattle.std.proofs.lemmas.List.Elements.{All-push, Contains-append_left, Contains-push}
 use Rattle.std.proofs.lemmas.List.Quantifiers.{all_pairs_push}
 use Rattle.std.proofs.lemmas.Option.{slice_get_within}
@@ -21,8 +21,8 @@ use Rattle.verilog_sites.specs.Scope.{IsAt, Stands, IsPort, HasDirection, HasDec
 use Rattle.verilog_sites.specs.Again.{listed_name}
 use Rattle.module_wires.specs.declared.wires.Wires.{Wires}
 use Rattle.module_wires.specs.Fitting.{IsSound}
-use Rattle.module_wires.specs.Numbered.{sites_in, IsNumberOf, AreWires, AreNumbered, IsMadeBefore, AreMadeNames, Puts, IsStarted, HasPortsTo, AreOthersTo, HasOthersTo}
-use Rattle.module_wires.proofs.Found.{Somewhere, never, same_some, one_item, found_contains, found_left, found_right, found_cases, mapped, found_mapped, taken, all_at}
+use Rattle.module_wires.specs.Numbered.{sites_in, IsNumberOf, AreWires, AreNumbered, IsMadeBefore, AreMadeNames, Puts, HasPortsTo, AreOthersTo, HasOthersTo}
+use Rattle.module_wires.proofs.Found.{Somewhere, same_some, one_item, found_contains, found_left, found_right, found_cases, mapped, found_mapped, taken, all_at}
 use Rattle.module_wires.proofs.Made.{not_used, one_operand, unused_before}
 use Rattle.module_wires.proofs.Zips.{zip_at, zip_from, zip_push, get_left, get_last, get_cases, filter_none, filter_one}
 
@@ -100,17 +100,6 @@ ports_more all at site name output range port old mid ports there is declared po
       count = puts.count;
     }
 
-pub ports_started : (all : List Site) (wires : Wires) → IsStarted wires → HasPortsTo all 0 wires
-ports_started all wires h = record {
-  ports = subst (λ (l : List BoundPort). AllZip (BindsPort all) (filter_map listed_name (take 0 all)) l) (sym h.ports) (start all);
-  list = h.list ∙ ap (map port_wire) (sym h.ports);
-  numbers = λ name. rw (h.numbers name) (λ number wire there. absurd (never wire (rw h.list at there)));
-  count = rw h.list (omega arith);
-} where
-  start : (sites : List Site) → AllZip (BindsPort all) (filter_map listed_name (take 0 sites)) []
-  start [] = tt
-  start (s ∷ rest) = tt
-
 -- ---- other wires
 
 others_none : (all : List Site) (at : ℕ) (others : List BoundWire) → ((wire : BoundWire) → ¬ MakesWire all at wire) → AreOthersTo all at others → AreOthersTo all (at + 1) others
@@ -163,25 +152,6 @@ makes_more all at made old new makes before puts kept = record {
   append_assoc : (xs ys zs : List BoundWire) → (xs ++ ys) ++ zs ≡ xs ++ (ys ++ zs)
   append_assoc [] ys zs = refl
   append_assoc (x ∷ xs) ys zs = ap (λ (l : List BoundWire). x ∷ l) (append_assoc xs ys zs)
-
-pub others_started : (all : List Site) (wires : Wires) → HasPortsTo all (length all) wires → HasOthersTo all 0 wires
-others_started all wires h = record {
-  ports = subst (λ (l : List Site). AllZip (BindsPort all) (filter_map listed_name l) wires.ports) (take_all (length all) all (omega arith)) h.ports;
-  others = [];
-  list = h.list ∙ sym (append_none (map port_wire wires.ports));
-  others_are = record {
-    places = [];
-    rising = λ i j d lt within. absurd (omega (arith, within));
-    below = λ k d within. absurd (omega (arith, within));
-    each = tt;
-    each_is = λ at wire lt makes. absurd (omega (arith, lt));
-  };
-  numbers = h.numbers;
-  count = h.count;
-} where
-  append_none : (xs : List BoundWire) → xs ++ [] ≡ xs
-  append_none [] = refl
-  append_none (x ∷ xs) = ap (λ (l : List BoundWire). x ∷ l) (append_none xs)
 
 -- ---- in the end
 

@@ -1,9 +1,9 @@
 -- Operands as parts of wires.
-use Rattle.std.proofs.Common.{◌≡◌, inl, inr, ℕ, ◌+◌, ◌<◌, ◌≤◌, List, [], ◌∷◌, ◌++◌, map, length, take, reverse, get_or, Option, Some, None, MatchOption, refl, sym, ◌∙◌, ap, subst}
+use Rattle.std.proofs.Common.{◌≡◌, inl, inr, ℕ, ◌+◌, ◌<◌, List, [], ◌∷◌, ◌++◌, map, length, take, reverse, get_or, Option, Some, None, MatchOption, refl, sym, ◌∙◌, ap, subst}
 use mathlib.Core.Former.{Count}
 use Rattle.std.specs.Prelude.{slice_get}
 use Rattle.std.specs.List.{All, AllZip, flat_map}
-use Rattle.std.proofs.lemmas.List.{take_all, map_more}
+use Rattle.std.proofs.lemmas.List.{map_more}
 use Rattle.std.proofs.lemmas.Option.{slice_get_within, slice_get-get_or, get_or_from_slice_get}
 use Rattle.std.specs.declared.alloc.Global.{Global}
 use Rattle.std.specs.declared.vec.Vec.{Vec}
@@ -104,10 +104,6 @@ part_is all list xs o number bit count d is same bits = record {
 
 -- ---- parts of many operands
 
-pub parts_start : {X : Type 0} (wires : List BoundWire) (view : X → Operand) (xs : List X) → AreParts wires (map view (take 0 xs)) []
-parts_start wires view [] = tt
-parts_start wires view (x ∷ xs) = tt
-
 pub parts_more : {X : Type 0} (wires : List BoundWire) (view : X → Operand) (xs : List X) (i : ℕ) (d : X) (old new : List BoundPart) (part : BoundPart) → i < length xs → AreParts wires (map view (take i xs)) old
     → BindsOperand wires (view (get_or xs i d)) part → new ≡ old ++ part ∷ [] → AreParts wires (map view (take (i + 1) xs)) new
 parts_more wires view xs i d old new part lt before binds pushed =
@@ -116,9 +112,6 @@ parts_more wires view xs i d old new part lt before binds pushed =
 
 pub used_item : {X : Type 0} (P : Operand → Type 0) (view : X → Operand) (xs : List X) (i : ℕ) (d : X) → All P (map view xs) → i < length xs → P (view (get_or xs i d))
 used_item P view xs i d h lt = all_at P (map view xs) (view (get_or xs i d)) h (found_mapped view xs (get_or xs i d) (i, slice_get-get_or xs i d lt))
-
-pub parts_all : {X : Type 0} (wires : List BoundWire) (view : X → Operand) (xs : List X) (i : ℕ) (parts : List BoundPart) → length xs ≤ i → AreParts wires (map view (take i xs)) parts → AreParts wires (map view xs) parts
-parts_all wires view xs i parts le h = subst (λ (l : List _). AreParts wires (map view l) parts) (take_all i xs le) h
 
 pub parts_reversed : (wires : List BoundWire) (os found : List Operand) (parts reversed : List BoundPart) → found ≡ os → AreParts wires found parts → reversed ≡ reverse parts → AllZip (BindsOperand wires) (reverse os) reversed
 parts_reversed wires os found parts reversed same are turned =

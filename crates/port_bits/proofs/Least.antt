@@ -17,14 +17,6 @@ pub none_past : (all : List Site) (limit scalar : ℕ) → length all ≤ scalar
 none_past all limit scalar past at bit printed p =
     let within = slice_get_within all scalar (Listed printed) p.1.is_scalar.listed in omega (arith, within)
 
--- at a site that lists no name
-pub none_listed : (all : List Site) (limit scalar : ℕ) (site : Site) → slice_get all scalar ≡ Some site → listed_name site ≡ None
-    → (at bit : ℕ) (printed : List ℕ) → ¬ CrossesBefore all limit scalar at bit printed
-none_listed all limit scalar site there none at bit printed p =
-    let e : Some None ≡ Some (Some printed) =
-    ap Some (sym none) ∙ (sym (named_at listed_name all scalar site there) ∙ named_at listed_name all scalar (Listed printed) p.1.is_scalar.listed) in
-    cc
-
 pub lists : (all : List Site) (scalar : ℕ) (site : Site) (name : List ℕ) → slice_get all scalar ≡ Some site → listed_name site ≡ Some name → IsAt all scalar (Listed name)
 lists all scalar site name there is = listed_back all scalar name (named_at listed_name all scalar site there ∙ ap Some is)
 

@@ -1,4 +1,4 @@
-use Rattle.std.proofs.Common.{inl, inr, refl, subst, List, ℕ, Option, None}
+use Rattle.std.proofs.Common.{refl, subst, Option, None}
 use Rattle.module_tree.specs.declared.kinds.Meaning.{Meaning}
 use Rattle.kind_ports.specs.Meanings.{KindMeans}
 use Rattle.bind_faults.proofs.KindNames.{is_kind, no_kind}
