@@ -26,7 +26,8 @@ pub enum BindFault {
     /// The kind of an instance is neither a module nor a cell.
     #[error("no module {name}", name = .0.as_str())]
     NoSuchModule(Name),
-    /// Modules that instantiate each other in a ring, from the first in text order on, each instantiating the next.
+    /// Modules that instantiate each other in a ring, from the first in text order on, each instantiating the next. Their names are not
+    /// printed here.
     #[error("recursive")]
     Recursive(List<Name>),
     /// A listed port has no direction, a direction no listed port, or a link by name no such port.
