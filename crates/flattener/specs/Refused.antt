@@ -74,6 +74,6 @@ IsRefused table bound Memory = Unit {0}
 abbrev pub IsAliasLoop : FlatFault → Type 0
 IsAliasLoop why = (wires : List (List ℕ)) × (why ≡ AliasLoop wires)
 
--- The two refusals are the same, but that of several rings each may name another one.
+-- The two refusals are the same, or both name a ring.
 abbrev pub AgreeButRings : FlatFault → FlatFault → Type 0
 AgreeButRings one other = (one ≡ other) ⊎ (IsAliasLoop one × IsAliasLoop other)

@@ -126,7 +126,7 @@ const NESTED: &[u8] =
 fn rows_of_wires(rt: HostRuntime) -> Result<(), Fail> {
     let alloc = rt.alloc();
     let rows: [(&[u8], [&str; 3], Status, &[u8]); 10] = [
-        (CHAIN, ["20000", "4000", "6000"], Status::Accepted, ACCEPTED),
+        (CHAIN, TIMES, Status::Accepted, ACCEPTED),
         (
             CHAIN,
             ["9000", "4000", "6000"],
@@ -141,7 +141,7 @@ fn rows_of_wires(rt: HostRuntime) -> Result<(), Fail> {
         ),
         (
             PAIR,
-            ["20000", "4000", "6000"],
+            TIMES,
             Status::Accepted,
             b"accepted\ndepth y 1 from a\ndepth z 1 from b\n",
         ),
@@ -154,7 +154,7 @@ fn rows_of_wires(rt: HostRuntime) -> Result<(), Fail> {
         // A vector that is crossed.
         (
             b"module top(input clk, input [0:1] a, output [1:0] y); JTL j0(.a(a[1]), .q(y[0])); JTL j1(.a(a[0]), .q(y[1])); endmodule",
-            ["20000", "4000", "6000"],
+            TIMES,
             Status::Accepted,
             b"accepted\ndepth y[0] 1 from a[1]\ndepth y[1] 1 from a[0]\n",
         ),
@@ -180,7 +180,7 @@ fn rows_of_wires(rt: HostRuntime) -> Result<(), Fail> {
         // As a synthesis tool prints it.
         (
             PRINTED,
-            ["20000", "4000", "6000"],
+            TIMES,
             Status::Accepted,
             b"accepted\ndepth y[0] 1 from a[0]\ndepth y[1] 1 from a[1]\n",
         ),
@@ -201,7 +201,7 @@ fn rows_of_forms(rt: HostRuntime) -> Result<(), Fail> {
         // Instances inside an instance.
         (
             NESTED,
-            ["20000", "4000", "6000"],
+            TIMES,
             Status::Accepted,
             b"accepted\ndepth y 1 from a\n",
         ),
@@ -221,46 +221,46 @@ fn rows_of_forms(rt: HostRuntime) -> Result<(), Fail> {
         // Two readers in two modules.
         (
             b"module sub(input p, output q); JTL d(.a(p), .q(q)); endmodule module top(input clk, input a, output y, output z); sub s(.p(a), .q(y)); JTL j(.a(a), .q(z)); endmodule",
-            ["20000", "4000", "6000"],
+            TIMES,
             Status::Refused,
             FORM,
         ),
         // Two drivers, a ring and no driver inside instances.
         (
             b"module m(output y); JTL j1(.a(a), .q(y)); JTL j2(.a(a), .q(y)); endmodule module top(input clk); m u(); m v(); endmodule",
-            ["20000", "4000", "6000"],
+            TIMES,
             Status::Refused,
             b"refused flat two drivers u.y u.j1.q u.j2.q\n",
         ),
         (
             b"module b(input p, output q); assign q = p; endmodule module top(input clk, input a, output y); wire w; b x(.p(w), .q(w)); assign y = a; endmodule",
-            ["20000", "4000", "6000"],
+            TIMES,
             Status::Refused,
             b"refused flat alias loop w x.p x.q\n",
         ),
         (
             b"module m(input p, output q); JTL j(.a(p), .q(q)); endmodule module top(input clk, output y); m s(.q(y)); endmodule",
-            ["20000", "4000", "6000"],
+            TIMES,
             Status::Refused,
             b"refused flat no driver s.j.a\n",
         ),
         // As many wire bits as there may be, and one more.
         (
             b"module top(input clk); wire [1999998:0] w; endmodule",
-            ["20000", "4000", "6000"],
+            TIMES,
             Status::Accepted,
             b"accepted\n",
         ),
         (
             b"module top(input clk); wire [0:1999999] w; endmodule",
-            ["20000", "4000", "6000"],
+            TIMES,
             Status::Refused,
             b"refused limit wires 2000001\n",
         ),
         // A ring beside a wire.
         (
             b"module top(input clk, input a, output y);\nJTL j(.a(a), .q(y));\nJTL r(.a(v), .q(u));\nJTL s(.a(u), .q(v));\nendmodule\n",
-            ["20000", "4000", "6000"],
+            TIMES,
             Status::Refused,
             FORM,
         ),
@@ -273,151 +273,132 @@ fn rows_of_forms(rt: HostRuntime) -> Result<(), Fail> {
     Ok(())
 }
 
-// Each row: a netlist, the numbers, and the answer.
+// Each row: a netlist and the answer.
 #[test]
 fn rows_of_circuits(rt: HostRuntime) -> Result<(), Fail> {
     let alloc = rt.alloc();
-    let rows: [(&[u8], [&str; 3], Status, &[u8]); 10] = [
+    let rows: [(&[u8], Status, &[u8]); 10] = [
         // A name that two JTLs read, and one that a JTL reads and that is an output.
         (
             b"module top(input clk, input a, output y, output z);\nJTL j(.a(a), .q(y));\nJTL k(.a(a), .q(z));\nendmodule\n",
-            ["20000", "4000", "6000"],
             Status::Refused,
             FORM,
         ),
         (
             b"module top(input clk, input a, output y, output z);\nJTL j(.a(a), .q(y));\nJTL k(.a(y), .q(z));\nendmodule\n",
-            ["20000", "4000", "6000"],
             Status::Refused,
             FORM,
         ),
         // An output on no .q.
         (
             b"module top(input clk, input a, output y, output z);\nJTL j(.a(a), .q(y));\nendmodule\n",
-            ["20000", "4000", "6000"],
             Status::Refused,
             b"refused flat no driver z\n",
         ),
         // A JTL that reads the clock.
         (
             b"module top(input clk, input a, output y);\nJTL j(.a(clk), .q(y));\nendmodule\n",
-            ["20000", "4000", "6000"],
             Status::Refused,
             FORM,
         ),
         // Ports without clk, and clk as an output.
         (
             b"module top(input a, output y);\nJTL j(.a(a), .q(y));\nendmodule\n",
-            ["20000", "4000", "6000"],
             Status::Refused,
             FORM,
         ),
         (
             b"module top(input a, output clk);\nJTL j(.a(a), .q(clk));\nendmodule\n",
-            ["20000", "4000", "6000"],
             Status::Refused,
             FORM,
         ),
         // A .q before its .a.
         (
             b"module top(input clk, input a, output y);\nJTL j(.q(y), .a(a));\nendmodule\n",
-            ["20000", "4000", "6000"],
             Status::Accepted,
             ACCEPTED,
         ),
         // A name on two .q, and an input on a .q.
         (
             b"module top(input clk, input a, input b, output y);\nJTL j(.a(a), .q(y));\nJTL k(.a(b), .q(y));\nendmodule\n",
-            ["20000", "4000", "6000"],
             Status::Refused,
             b"refused flat two drivers y j.q k.q\n",
         ),
         (
             b"module top(input clk, input a, input b, output y);\nJTL j(.a(a), .q(b));\nJTL k(.a(b), .q(y));\nendmodule\n",
-            ["20000", "4000", "6000"],
             Status::Refused,
             b"refused flat two drivers b b j.q\n",
         ),
         // Wires that are assigned in a ring.
         (
             b"module top(input clk, input a, output y);\nwire u, v;\nassign u = v;\nassign v = u;\nJTL j(.a(a), .q(y));\nendmodule\n",
-            ["20000", "4000", "6000"],
             Status::Refused,
             b"refused flat alias loop u v\n",
         ),
     ];
-    for (netlist, numbers, status, text) in rows {
-        let (answer, written) = answer_to(alloc, netlist, numbers)?;
+    for (netlist, status, text) in rows {
+        let (answer, written) = answer_to(alloc, netlist, TIMES)?;
         assert_eq!(rt; answer, status, "{:?}", netlist);
         assert_eq!(rt; written.as_slice(), text, "{:?}", netlist);
     }
     Ok(())
 }
 
-// Each row: a netlist, the numbers, and the answer.
+// Each row: a netlist and the answer.
 #[test]
 fn rows_of_texts(rt: HostRuntime) -> Result<(), Fail> {
     let alloc = rt.alloc();
-    let rows: [(&[u8], [&str; 3], Status, &[u8]); 9] = [
+    let rows: [(&[u8], Status, &[u8]); 9] = [
         // The clock alone.
         (
             b"module top(input clk);\nendmodule\n",
-            ["20000", "4000", "6000"],
             Status::Accepted,
             b"accepted\n",
         ),
         // Texts that are refused before.
         (
             b"",
-            ["20000", "4000", "6000"],
             Status::Refused,
             b"refused bind no top\n",
         ),
         (
             b"module top(input a, output y);\nassign y = 1'b0;",
-            ["20000", "4000", "6000"],
             Status::Refused,
             b"refused lex 43 bad byte\n",
         ),
         (
             b"/*",
-            ["20000", "4000", "6000"],
             Status::Refused,
             b"refused lex 0 unended comment\n",
         ),
         (
             b"(* a",
-            ["20000", "4000", "6000"],
             Status::Refused,
             b"refused lex 0 unended attribute\n",
         ),
         (
             b"\\\n",
-            ["20000", "4000", "6000"],
             Status::Refused,
             b"refused lex 0 empty escape\n",
         ),
         (
             b"`include",
-            ["20000", "4000", "6000"],
             Status::Refused,
             b"refused lex 0 directive\n",
         ),
         (
             b"9999999999",
-            ["20000", "4000", "6000"],
             Status::Refused,
             b"refused lex 0 big number\n",
         ),
         (
             b"module top(input clk",
-            ["20000", "4000", "6000"],
             Status::Refused,
             b"refused parse 20\n",
         ),
     ];
-    for (netlist, numbers, status, text) in rows {
-        let (answer, written) = answer_to(alloc, netlist, numbers)?;
+    for (netlist, status, text) in rows {
+        let (answer, written) = answer_to(alloc, netlist, TIMES)?;
         assert_eq!(rt; answer, status, "{:?}", netlist);
         assert_eq!(rt; written.as_slice(), text, "{:?}", netlist);
     }
