@@ -4,10 +4,6 @@ pub mod Whole
 pub mod Loop
 pub mod Shorter
 pub mod Views
-pub mod Prints
 pub mod Numbers
 pub mod Tokens
-pub mod Adds
 pub mod Good
-pub mod Back
-pub mod Braces

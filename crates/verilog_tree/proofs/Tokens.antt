@@ -1,5 +1,5 @@
 -- What the bytes of a token are, by its kind: digits, text, one byte. And each token of a reading lies in its text.
-use Rattle.std.proofs.Common.{inl, inr, ◌≡◌, ◌<◌, ◌≤◌, ℕ, zero, suc, Bool, true, false, arith, length, List, [], ◌∷◌, refl}
+use Rattle.std.proofs.Common.{inl, inr, ◌≡◌, ◌<◌, ◌≤◌, ℕ, zero, suc, Bool, true, false, arith, length, List, [], ◌∷◌, map, refl, ap, subst}
 use Rattle.std.specs.Prelude.{◌&&◌, ◌||◌, ◌==◌, ◌+◌, nat_le}
 use Rattle.std.specs.Int.{is_in_range}
 use Rattle.std.proofs.lemmas.Bool.{eqb-true}
@@ -13,7 +13,10 @@ use Rattle.std.proofs.lemmas.Str.{IsUtf8-from_ascii}
 use Rattle.verilog_lex.specs.Bytes.{is_start, is_part, is_word}
 use Rattle.verilog_lex.specs.declared.token.Token.{Token}
 use Rattle.verilog_lex.specs.Words as lex
-use Rattle.verilog_tree.specs.Words.{IsToken}
+use Rattle.verilog_tree.specs.Words.{Word, IsToken, meaning, word_at, words}
+use Rattle.verilog_tree.specs.Trees.{Module}
+use Rattle.verilog_tree.specs.Spelling.{SpellsSource}
+use Rattle.verilog_tree.specs.Text.{IsSpelledTree}
 
 and_left : (a b : Bool) → a && b ≡ true → a ≡ true
 and_left true b e = refl
@@ -95,3 +98,11 @@ escaped_text w e = IsUtf8-from_ascii w (word_ascii is_ascii_graphic is_ascii_gra
 pub all_tokens : (bytes : List ℕ) (from : ℕ) (ts : List Token) → lex.AreSpelled (lex.words_of bytes ts) → lex.ArePlaced (length bytes) from ts → AllByRecursion (IsToken bytes) ts
 all_tokens bytes from [] s p = tt
 all_tokens bytes from (t ∷ ts) s p = (record { order = p.1; within = p.2; spelled = s.0 }, all_tokens bytes t.end ts s.1 p.3)
+
+pub words_are : (text : List ℕ) (ts : List Token) → words text ts ≡ map meaning (lex.words_of text ts)
+words_are text [] = refl
+words_are text (t ∷ ts) = ap (λ (ws : List Word). word_at text t ∷ ws) (words_are text ts)
+
+-- a tree that the words of a text spell is spelled by tokens
+pub spelled_tree : (text : List ℕ) (ts : List Token) (tree : List Module) → lex.AreSpelled (lex.words_of text ts) → SpellsSource tree (words text ts) → IsSpelledTree tree
+spelled_tree text ts tree good s = record { tokens = lex.words_of text ts; good = good; spelled = subst (λ (ws : List Word). SpellsSource tree ws) (words_are text ts) s }

@@ -6,6 +6,4 @@ pub mod Parsing
 pub mod Fault
 pub mod Giving
 pub mod Views
-pub mod Printing
 pub mod Text
-pub mod Onto

@@ -1,74 +1,12 @@
--- The printed form of a tree: its words, each with one blank behind it, and what reading it gives.
-use Rattle.std.specs.Prelude.{ℕ, cond, List, [], ◌∷◌, map, codes, decimal, nat_eq}
-use Rattle.verilog_lex.specs.Bytes.{is_plain_name}
-use Rattle.verilog_lex.specs.Reads.{IsOnlyReading}
+-- Trees that some tokens spell.
+use Rattle.std.specs.Prelude.{List, map}
 use Rattle.verilog_lex.specs.Words as lex
-use Rattle.verilog_lex.specs.Written.{Written, text_of}
-use Rattle.verilog_lex.specs.declared.token.TokenKind.{TokenKind}
-use Rattle.verilog_lex.specs.declared.token.TokenKind.TheVariants as kind
-use Rattle.verilog_lex.specs.declared.token.Token.{Token}
-use Rattle.verilog_tree.specs.declared.lexeme.Keyword.{Keyword}
-use Rattle.verilog_tree.specs.declared.lexeme.Keyword.TheVariants as key
-use Rattle.verilog_tree.specs.Words.{Word, name, keyword, number, mark, meaning, words}
+use Rattle.verilog_tree.specs.Words.{meaning}
 use Rattle.verilog_tree.specs.Trees.{Module}
 use Rattle.verilog_tree.specs.Spelling.{SpellsSource}
-use Rattle.verilog_tree.specs.Printing.{printed}
-
--- ---- how a word is written
-
--- the bytes of a reserved word; those that no tree has are all written as one of them
-abbrev pub key_bytes : Keyword → List ℕ
-key_bytes key.Module = codes "module"
-key_bytes key.Endmodule = codes "endmodule"
-key_bytes key.Input = codes "input"
-key_bytes key.Output = codes "output"
-key_bytes key.Wire = codes "wire"
-key_bytes key.Assign = codes "assign"
-key_bytes key.Other = codes "reg"
-
--- a name stands behind a backslash where it is no plain name or is reserved
-abbrev pub name_kind : List ℕ → TokenKind
-name_kind n = cond (is_plain_name n) kind.Name kind.Escaped
-
--- a newline stands behind endmodule, a space behind every other reserved word
-abbrev pub key_blank : Keyword → ℕ
-key_blank key.Module = 32
-key_blank key.Endmodule = 10
-key_blank key.Input = 32
-key_blank key.Output = 32
-key_blank key.Wire = 32
-key_blank key.Assign = 32
-key_blank key.Other = 32
-
--- a newline stands behind a semicolon, a space behind every other mark
-abbrev pub mark_blank : ℕ → ℕ
-mark_blank c = cond (nat_eq c 59) 10 32
-
--- A word as it is written, and the blank behind it. A number is written in its shortest form.
-abbrev pub written : Word → Written
-written (name n) = record { word = record { kind = name_kind n; bytes = n }; blank = 32 }
-written (keyword k) = record { word = record { kind = kind.Reserved; bytes = key_bytes k }; blank = key_blank k }
-written (number n) = record { word = record { kind = kind.Number; bytes = decimal n }; blank = 32 }
-written (mark c) = record { word = record { kind = kind.Mark; bytes = c ∷ [] }; blank = mark_blank c }
-
--- the printed form of the modules of a text
-abbrev pub printed_text : List Module → List ℕ
-printed_text tree = text_of (map written (printed tree))
-
--- ---- reading it
 
 -- The tree is spelled by some tokens: each is what its kind says, and their words spell the tree.
 pub record IsSpelledTree (tree : List Module) : Type 0 where
   pub tokens : List lex.Word
   pub good : lex.AreSpelled tokens
   pub spelled : SpellsSource tree (map meaning tokens)
-
--- The text has one reading, and its tokens spell the tree.
-pub record IsReadBack (text : List ℕ) (tree : List Module) : Type 0 where
-  pub tokens : List Token
-  pub reading : IsOnlyReading text tokens
-  pub spelled : SpellsSource tree (words text tokens)
-
--- The printed form of a tree that some tokens spell is read back.
-abbrev pub PrintedTreesAreReadBack : Type 0
-PrintedTreesAreReadBack = (tree : List Module) → IsSpelledTree tree → IsReadBack (printed_text tree) tree

@@ -29,6 +29,16 @@ keyword_of w = cond (bytes_eq w (codes "module")) key.Module
     (cond (bytes_eq w (codes "wire")) key.Wire
     (cond (bytes_eq w (codes "assign")) key.Assign key.Other)))))
 
+-- the bytes of a reserved word; those that no tree has are all written as one of them
+abbrev pub key_bytes : Keyword → List ℕ
+key_bytes key.Module = codes "module"
+key_bytes key.Endmodule = codes "endmodule"
+key_bytes key.Input = codes "input"
+key_bytes key.Output = codes "output"
+key_bytes key.Wire = codes "wire"
+key_bytes key.Assign = codes "assign"
+key_bytes key.Other = codes "reg"
+
 -- the word that a token of a kind and of these bytes is
 abbrev pub word_of : TokenKind → List ℕ → Word
 word_of kind.Name w = name w

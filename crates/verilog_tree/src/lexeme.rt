@@ -9,7 +9,7 @@ use verilog_lex::{Token, TokenKind};
 
 /// The reserved words that the grammar has; the other reserved words begin nothing.
 #[derive(Clone, Copy, Debug, PartialEq, Eq)]
-pub(crate) enum Keyword {
+pub enum Keyword {
     Module,
     Endmodule,
     Input,

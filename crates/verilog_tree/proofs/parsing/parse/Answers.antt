@@ -3,8 +3,7 @@ use Rattle.std.proofs.lemmas.List.{length-map}
 use Rattle.verilog_tree.specs.Words.{word_at, words}
 use Rattle.verilog_tree.specs.Fault.{IsFault}
 use Rattle.verilog_tree.specs.Views.{view_source}
-use Rattle.verilog_tree.proofs.Back.{spelled_tree}
-use Rattle.verilog_tree.proofs.Tokens.{all_tokens}
+use Rattle.verilog_tree.proofs.Tokens.{all_tokens, spelled_tree}
 use Rattle.verilog_tree.proofs.Whole.{source_found, source_again, source_fault, clash, ok_is}
 use Rattle.verilog_tree.proofs.parsing.parse.Goals as goal
 

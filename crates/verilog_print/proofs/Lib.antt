@@ -1,0 +1,5 @@
+pub mod Written
+pub mod Prints
+pub mod Adds
+pub mod Back
+pub mod Braces

@@ -1,5 +1,0 @@
-use Rattle.verilog_tree.proofs.Back.{read_back}
-use Rattle.verilog_tree.proofs.laws.printed_trees_are_read_back.Goals as goal
-
-pub returns : goal.returns
-returns c = read_back c.written_words_are_read.ensures
