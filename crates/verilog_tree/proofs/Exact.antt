@@ -318,10 +318,6 @@ many_none test read (suc n) ts e = rw e refl
 abbrev more : {A : Type 0} → (Option Word → Bool) → (List Word → Result (A × List Word) ℕ) → ℕ → A × List Word → Result (List A × List Word) ℕ
 more test read n x = many test read n x.1 >>= put x.0
 
-nil_none : (r : List Word) → first r ≡ first [] → r ≡ []
-nil_none [] e = refl
-nil_none (x ∷ xs) e = absurd cc
-
 pub exact_many : {A : Type 0} (test : Option Word → Bool) (S : A → List Word → Type 0) (read : List Word → Result (A × List Word) ℕ) (after ends : Option Word → Bool)
     → Exact S read after → Leads test true S → test None ≡ false → ((o : Option Word) → test o ≡ true → after o ≡ true) → ((o : Option Word) → ends o ≡ true → after o ≡ true) → ((o : Option Word) → ends o ≡ true → test o ≡ false)
     → Exact (Each S) (λ ts. many test read (length ts) ts) ends

@@ -14,9 +14,6 @@ pub record SoFar {T A : Type 0} (test : Option T → Bool) (read : List T → Re
   pub enough : length rest ≤ steps
   pub goes_on : with_front xs (many test read steps rest) ≡ total
 
-pub so_far_start : {T A : Type 0} (test : Option T → Bool) (read : List T → Result (A × List T) ℕ) (xs : List A) (rest : List T) → SoFar test read xs rest (with_front xs (many test read (length rest) rest))
-so_far_start test read xs rest = record { steps = length rest; enough = omega arith; goes_on = refl }
-
 regroup : {T A : Type 0} (xs : List A) (x : A) (r : Result (List A × List T) ℕ) → with_front xs (r >>= put x) ≡ with_front (xs ++ x ∷ []) r
 regroup xs x (Ok r) = ap (λ (ys : List _). Ok (ys, r.1)) (sym (append_assoc xs (x ∷ []) r.0))
 regroup xs x (Err e) = refl

@@ -345,10 +345,6 @@ unfolding Parsing.optional
 exact_optional = exact_perhaps begins_expr SpellsValue Parsing.value behind_expr behind_optional exact_value
     (value_leads begins_expr true (λ n. refl) refl) (λ o ok. and_right (not (begins_expr o)) (isnt_mark 91 o) ok) (λ o ok. not_true (begins_expr o) (and_left (not (begins_expr o)) (isnt_mark 91 o) ok))
 
-meets_optional : (after : Option Word → Bool) → ((n : List ℕ) → after (Some (name n)) ≡ true) → after (Some (mark 123)) ≡ true → (e : Option Expr) → Meets after (SpellsOptional e) after
-meets_optional after n b None = record { at = λ w rest s ok. rw s ok }
-meets_optional after n b (Some e) = record { at = λ w rest s ok. let l = value_leads after true n b e w s in rw l.2 l.3 }
-
 pub exact_named : Exact SpellsNamed Parsing.named any
 unfolding Parsing.named
 exact_named = said SpellsNamed (λ y w s. s) (λ l w s. ((tt, (l.name, (tt, (l.expr, tt)))), refl, s))
@@ -609,9 +605,6 @@ from_item (PortItem d b r ns) w s = inl ((d, (b, (r, (ns, tt)))), refl, s)
 from_item (Wires r ns) w s = inr (inl ((tt, (r, (ns, tt))), refl, s))
 from_item (Assigns pairs) w s = inr (inr (inl ((tt, (pairs, tt)), refl, s)))
 from_item (Instances kind is) w s = inr (inr (inr ((kind, (is, tt)), refl, s)))
-
-key_wire : Option Word → Bool
-key_wire = next_is (key_of key.Wire)
 
 pub exact_item : Exact SpellsItem Parsing.item any
 unfolding Parsing.item
