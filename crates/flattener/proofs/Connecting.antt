@@ -36,14 +36,14 @@ use Rattle.flat_pieces.specs.Bits.{offsets_from, assign_links}
 use Rattle.flat_pieces.specs.Paths.{longer}
 use Rattle.flat_pieces.specs.Pieces.{Piece, empty, joined, only_links, cell_piece, module_piece, instance_piece, pieces_from, inside_piece}
 use Rattle.flat_pieces.specs.Whole.{IsNumberAt, whole_piece, IsShapeOf, inputs_in, outputs_in, starts_of, reads_of, AreStarts, AreReads, ReadsNet}
+use Rattle.flat_names.proofs.Lists.{all_got}
+use Rattle.flat_names.proofs.Modules.{wires_at}
+use Rattle.flat_names.specs.Design.{IsDesign}
 use Rattle.flattener.specs.declared.shape.Shape.{Shape}
 use Rattle.flattener.specs.Ends.{bare, input_place, input_places, output_place, output_places, bits_of_port}
 use Rattle.flattener.specs.Shape.{IsShaped}
-use Rattle.flattener.specs.Walk.{IsDesign}
-use Rattle.flattener.proofs.Lists.{all_got}
 use Rattle.flattener.proofs.Listing.{bits_of_port_length, port_bits_same}
 use Rattle.flattener.proofs.Naming.{names_of_bits}
-use Rattle.flattener.proofs.Steps.{wires_at}
 
 -- ---- cells are of rows
 

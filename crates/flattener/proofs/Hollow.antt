@@ -22,7 +22,8 @@ use Rattle.design_size.specs.Hierarchy.{instances_of, wires_of, bits_of, bits_by
 use Rattle.flat_pieces.specs.Bits.{offsets_from, bit_numbers, ends_link, assign_links}
 use Rattle.flat_pieces.specs.Paths.{longer}
 use Rattle.flat_pieces.specs.Pieces.{Piece, empty, joined, only_places, only_links, module_piece, instance_piece, pieces_from, inside_piece}
-use Rattle.flattener.proofs.Lists.{mapped_from, all_tail, all_got}
+use Rattle.flat_names.proofs.Lists.{mapped_from, all_got}
+use Rattle.flattener.proofs.Lists.{all_tail}
 
 -- ---- sums that are 0
 

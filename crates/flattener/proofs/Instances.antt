@@ -11,14 +11,12 @@ use Rattle.rsfq_ids.specs.declared.table.Kind.{Kind}
 use Rattle.rsfq_ids.specs.declared.table.Kind.TheVariants.{Jtl, Split, Merge, Gate}
 use Rattle.rsfq_ids.specs.WellFormed.{IsRow, FitsKind}
 use Rattle.bound_source.specs.declared.bound.BoundWire.{BoundWire}
-use Rattle.bound_source.specs.declared.bound.BoundPort.{BoundPort}
 use Rattle.bound_source.specs.declared.bound.BoundLink.{BoundLink}
 use Rattle.bound_source.specs.declared.bound.BoundInstance.{BoundInstance}
 use Rattle.bound_source.specs.declared.bound.BoundModule.{BoundModule}
 use Rattle.bound_source.specs.declared.bound.Bound.{Bound}
 use Rattle.bound_source.specs.declared.bound.BoundKind.{BoundKind}
 use Rattle.bound_source.specs.declared.bound.BoundKind.TheVariants.{Module, Cell}
-use Rattle.bound_source.specs.Bits.{width_of}
 use Rattle.bound_source.specs.WellFormed.{IsBound, IsModule, IsInstance, cell_ports, port_widths}
 use Rattle.design_size.specs.declared.size.Size.{Size}
 use Rattle.design_size.specs.Hierarchy.{bits_of, bit_count, cell_count}
@@ -27,10 +25,11 @@ use Rattle.design_size.specs.Sizes.{AreSizes}
 use Rattle.flat_pieces.specs.Bits.{offsets_from}
 use Rattle.flat_pieces.specs.Paths.{longer}
 use Rattle.flat_pieces.specs.Pieces.{Piece, empty, joined, only_places, only_links, reading_of, cell_piece, links_of_link, module_piece, instance_piece, inside_piece, instance_at}
+use Rattle.flat_names.proofs.Lists.{mapped_from, all_got}
+use Rattle.flat_names.proofs.Modules.{module_there}
 use Rattle.flattener.specs.Wiring.{AreNumbered, IsNumberedLink}
 use Rattle.flattener.specs.Walk.{IsInstanceOn, AreOffsets, HasRoom}
 use Rattle.flattener.specs.Solid.{is_solid}
-use Rattle.flattener.proofs.Lists.{mapped_from, all_got}
 use Rattle.flattener.proofs.Numbering.{parts_numbered, link_numbered}
 use Rattle.flattener.proofs.Hollow.{hollow_kind, hollow_inside}
 use Rattle.flattener.proofs.Steps.{module_step}
@@ -64,12 +63,6 @@ cell_at table bound levels path offsets base instance number row is there =
     ∙ ap (λ (o : Option CellRow). unwrap_or (option_map (λ (row : CellRow). cell_piece (longer path instance.name) number row instance.links offsets) o) empty) there
 
 -- ---- modules
-
--- the module that an instance is of
-pub module_there : (table : CellTable) (bound : Bound) (wires : List BoundWire) (instance : BoundInstance) (at : ℕ) → IsInstance table bound wires instance → instance.kind ≡ Module at → (owner : BoundModule) × (slice_get bound.modules at ≡ Some owner)
-module_there table bound wires instance at i is =
-    let found = mapped_from (λ (inner : BoundModule). map (λ (port : BoundPort). width_of port.range) inner.ports) (slice_get bound.modules at) i.widths (sym (ap (port_widths table bound) is) ∙ i.kind) in
-    (found.0, found.1)
 
 -- what an instance of a module comes to
 pub module_at : (table : CellTable) (bound : Bound) (levels : ℕ) (path : Option (List ℕ)) (offsets : List ℕ) (base : ℕ) (instance : BoundInstance) (at : ℕ) (owner : BoundModule) → instance.kind ≡ Module at → slice_get bound.modules at ≡ Some owner →

@@ -7,9 +7,7 @@ pub mod Picking
 pub mod Steps
 pub mod Instances
 pub mod Listing
-pub mod Placing
 pub mod Members
-pub mod Begun
 pub mod Naming
 pub mod Writing
 pub mod Resolving

@@ -4,9 +4,9 @@ use Rattle.std.proofs.lemmas.List.{append-nil}
 use Rattle.std.proofs.lemmas.List.FromFn.{map-range_with_len_more}
 use Rattle.std.specs.Prelude.{slice_get}
 use Rattle.std.specs.Option.{option_map}
-use Rattle.std.specs.Result.{IfOk, OnOk}
+use Rattle.std.specs.Result.{OnOk}
 use Rattle.std.specs.List.{All, flat_map, enumerate_from, range_with_len, zip}
-use Rattle.std.proofs.lemmas.Option.{same_Some, slice_get-map, slice_get_within, get_or_from_slice_get, slice_get_read}
+use Rattle.std.proofs.lemmas.Option.{same_Some, slice_get-map}
 
 pub range_more : (a n : ℕ) → range_with_len a (suc n) ≡ range_with_len a n ++ (a + n) ∷ []
 range_more a zero = let e : a ≡ a + 0 = omega arith in ap (λ (j : ℕ). j ∷ []) e
@@ -91,24 +91,8 @@ map_got {X} {Y} f xs k y e = go (slice_get xs k) refl (sym (slice_get-map f xs k
 pub got_map : {X Y : Type 0} (f : X → Y) (xs : List X) (k : ℕ) (x : X) → slice_get xs k ≡ Some x → slice_get (map f xs) k ≡ Some (f x)
 got_map f xs k x e = slice_get-map f xs k ∙ ap (option_map f) e
 
--- a value that comes from an optional one comes from a value
-pub mapped_from : {X Y : Type 0} (f : X → Y) (o : Option X) (y : Y) → option_map f o ≡ Some y → (x : X) × (o ≡ Some x) × (f x ≡ y)
-mapped_from f None y e = absurd cc
-mapped_from f (Some x) y e = (x, refl, same_Some (f x) y e)
-
 pub all_tail : {X : Type 0} (P : X → Type 0) (x : X) (xs : List X) → All P (x ∷ xs) → All P xs
 all_tail P x xs h = λ k d low. h (suc k) d (omega arith)
-
--- what holds of each item holds of the one that was got
-pub all_got : {X : Type 0} (P : X → Type 0) (xs : List X) (k : ℕ) (x : X) → All P xs → slice_get xs k ≡ Some x → P x
-all_got P xs k x h e = subst P (get_or_from_slice_get xs k x x e) (h k x (slice_get_within xs k x e))
-
--- what was read from a list that is another
-pub read_from : {X : Type 0} (xs ys : List X) (k : ℕ) (x : X) → ys ≡ xs → x ≡ get_or ys k x → x ≡ get_or xs k x
-read_from {X} xs ys k x same is = is ∙ ap (λ (zs : List X). get_or zs k x) same
-
-pub read_at : {X : Type 0} (xs ys : List X) (k : ℕ) (there x : X) → slice_get xs k ≡ Some there → ys ≡ xs → x ≡ get_or ys k x → slice_get xs k ≡ Some x
-read_at xs ys k there x e same is = slice_get_read xs (length xs) k x refl (slice_get_within xs k there e) (read_from xs ys k x same is)
 
 -- what holds of a value where a call succeeds holds of an equal one
 pub ok_along : {T E X : Type 0} (P : X → Type 0) {x y : X} → x ≡ y → (r : Result T E) → OnOk r (P x) → OnOk r (P y)
@@ -133,10 +117,6 @@ numbered_step f xs i d done whole low e =
     ∙ ap (λ k. done ++ (f (i, get_or xs i d) ++ flat_map f (enumerate_from (i + 1) (drop k xs)))) (add-one i)
     ∙ ap (λ ys. done ++ flat_map f (enumerate_from i ys)) (sym (drop-cons xs i d low))
     ∙ e
-
-pub ok_then : {T E : Type 0} (P Q : T → Type 0) → ((x : T) → P x → Q x) → (r : Result T E) → IfOk r P → IfOk r Q
-ok_then P Q law (Ok x) h = law x h
-ok_then P Q law (Err e) h = h
 
 pub on_ok : {T E : Type 0} (P : Type 0) → P → (r : Result T E) → OnOk r P
 on_ok P p (Ok x) = p

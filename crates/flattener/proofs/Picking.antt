@@ -7,8 +7,9 @@ use Rattle.bound_source.specs.declared.bound.BoundInstance.{BoundInstance}
 use Rattle.bound_source.specs.declared.bound.BoundModule.{BoundModule}
 use Rattle.design_size.specs.declared.size.Size.{Size}
 use Rattle.flat_pieces.specs.Pieces.{Piece, empty, joined, pieces_from}
+use Rattle.flat_names.proofs.Lists.{read_at}
 use Rattle.flattener.specs.Solid.{is_solid, solid_place, solid_places}
-use Rattle.flattener.proofs.Lists.{got_map, read_at}
+use Rattle.flattener.proofs.Lists.{got_map}
 use Rattle.flattener.proofs.Joining.{empty_joined}
 
 -- the instances at these places

@@ -1,7 +1,7 @@
 -- The steps of the walk over a bound source.
-use Rattle.std.proofs.Common.{◌≡◌, ◌∙◌, ◌+◌, ◌-◌, ◌<◌, ◌≤◌, ℕ, zero, suc, List, [], ◌∷◌, ◌++◌, drop, length, get_or, Option, Some, false, refl, sym, ap, subst, arith, add-one, drop-cons, length-append}
-use Rattle.std.specs.Prelude.{slice_get, unwrap_or, option_to_list, IsSome}
-use Rattle.std.specs.Option.{option_map, option_and_then}
+use Rattle.std.proofs.Common.{◌≡◌, ◌∙◌, ◌+◌, ◌-◌, ◌<◌, ◌≤◌, ℕ, zero, suc, List, ◌∷◌, ◌++◌, drop, length, get_or, Option, Some, false, sym, ap, subst, arith, add-one, drop-cons, length-append}
+use Rattle.std.specs.Prelude.{slice_get, unwrap_or, option_to_list}
+use Rattle.std.specs.Option.{option_map}
 use Rattle.std.specs.List.{flat_map}
 use Rattle.rsfq_ids.specs.declared.table.CellTable.{CellTable}
 use Rattle.alias_nets.specs.declared.link.Link.{Link}
@@ -9,40 +9,12 @@ use Rattle.bound_source.specs.declared.bound.BoundInstance.{BoundInstance}
 use Rattle.bound_source.specs.declared.bound.BoundModule.{BoundModule}
 use Rattle.bound_source.specs.declared.bound.Bound.{Bound}
 use Rattle.design_size.specs.declared.size.Size.{Size}
-use Rattle.design_size.specs.Hierarchy.{instances_of, wires_of, module_of, leads_to, IsDeeper}
 use Rattle.flat_pieces.specs.Bits.{assign_links}
 use Rattle.flat_pieces.specs.Pieces.{Piece, empty, joined, only_places, only_links, instance_piece, pieces_from, inside_piece, instance_at}
-use Rattle.flattener.specs.Walk.{IsWithin, HasRoom}
+use Rattle.flattener.specs.Walk.{HasRoom}
 use Rattle.flattener.specs.Solid.{is_solid, solid_places}
 use Rattle.flattener.proofs.Joining.{joined_assoc}
 use Rattle.flattener.proofs.Picking.{picked, all_solid}
-
--- ---- modules
-
-pub wires_at : (bound : Bound) (at : ℕ) (owner : BoundModule) → slice_get bound.modules at ≡ Some owner → wires_of bound at ≡ owner.wires
-wires_at bound at owner e = ap (λ (o : Option BoundModule). unwrap_or (option_map (λ (m : BoundModule). m.wires) o) []) e
-
-pub instances_at : (bound : Bound) (at : ℕ) (owner : BoundModule) → slice_get bound.modules at ≡ Some owner → instances_of bound at ≡ owner.instances
-instances_at bound at owner e = ap (λ (o : Option BoundModule). unwrap_or (option_map (λ (m : BoundModule). m.instances) o) []) e
-
--- a module lies on a level
-pub some_level : (bound : Bound) (levels at : ℕ) → (IsDeeper bound levels at → ⊥) → 1 ≤ levels
-some_level bound zero at deep = absurd (deep ([], refl, refl))
-some_level bound (suc levels) at deep = omega arith
-
--- what is inside a module lies one level less deep
-pub one_less : (bound : Bound) (levels at k : ℕ) (instance : BoundInstance) → (IsDeeper bound levels at → ⊥) → slice_get (instances_of bound at) k ≡ Some instance → IsWithin bound levels instance.kind
-one_less bound levels at k instance deep e inner is =
-    let low = some_level bound levels at deep in (
-      low,
-      λ d.
-          deep (
-            k ∷ d.0,
-            (let len = d.1 in omega (arith, len, low)),
-            subst (λ (o : Option BoundInstance). IsSome (option_and_then (λ inner. leads_to bound inner d.0) (option_and_then (λ i. module_of i.kind) o))) (sym e)
-                (subst (λ (o : Option ℕ). IsSome (option_and_then (λ inner. leads_to bound inner d.0) o)) (sym is) d.2),
-          ),
-    )
 
 -- what is inside a module: the links of its assigns, and then its instances
 pub inside_more : (table : CellTable) (bound : Bound) (levels at : ℕ) (path : Option (List ℕ)) (offsets : List ℕ) (base : ℕ) (owner : BoundModule) → 1 ≤ levels → slice_get bound.modules at ≡ Some owner →

@@ -14,9 +14,9 @@ use Rattle.flat_places.specs.Names.{cell_name}
 use Rattle.flat_pieces.specs.Bits.{offsets_from}
 use Rattle.flat_pieces.specs.Pieces.{Piece, empty, joined, only_places, inside_piece}
 use Rattle.flat_pieces.specs.Whole.{whole_piece}
+use Rattle.flat_names.proofs.Modules.{wires_at}
 use Rattle.flattener.specs.Walk.{HasRoom, AreOffsets}
 use Rattle.flattener.proofs.Joining.{empty_joined}
-use Rattle.flattener.proofs.Steps.{wires_at}
 
 -- the top's own wires were written, and what is inside it goes behind them
 pub whole_goes : (table : CellTable) (bound : Bound) (top : BoundModule) (start placed : Piece) (wires : List BoundWire) (offsets : List ℕ) → slice_get bound.modules bound.top ≡ Some top → wires ≡ top.wires → start ≡ empty → placed ≡ joined start (only_places (bits_of wires)) →

@@ -5,8 +5,6 @@ pub mod Written
 pub mod Solid
 pub mod Walk
 pub mod Ends
-pub mod Found
-pub mod Begins
 pub mod Shape
 pub mod Gathered
 pub mod Sample

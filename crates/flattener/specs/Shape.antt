@@ -12,8 +12,8 @@ use Rattle.flat_places.specs.Places.{places_of}
 use Rattle.flat_places.specs.Names.{place_name}
 use Rattle.flat_places.specs.Refusal.{HasNoDriver}
 use Rattle.flat_pieces.specs.Whole.{whole_piece, IsShapeOf, starts_of, reads_of, ReadsNet}
+use Rattle.flat_names.specs.Design.{IsDesign}
 use Rattle.flattener.specs.declared.shape.Shape.{Shape}
-use Rattle.flattener.specs.Walk.{IsDesign}
 use Rattle.flattener.specs.Ends.{bare}
 
 -- A design within its limits, the shape of its circuit, and what is written out for it: all drivers and readers with the numbers of their places, and which place follows which.

@@ -10,9 +10,9 @@ ghost use Rattle.flat_places.specs.Circuit.{port_bits};
 ghost use Rattle.flat_pieces.specs.Paths.{longer};
 ghost use Rattle.flattener.specs.Ends.{bare, bits_of_port, input_drivers, output_readers, input_places, output_places, HasDriver, HasReader, printed_driver, printed_reader};
 
-use crate::names::{bit_name, longer_path};
 use crate::wiring::reading_pins;
 use bound_source::BoundPort;
+use flat_names::{bit_name, longer_path};
 use rsfq_ids::circuit::{Driver, FlatCell, PortBit, Reader};
 use rsfq_ids::id::{CellId, Id, NetId, PortId};
 use rsfq_ids::list::{IdVec, NoMemory};

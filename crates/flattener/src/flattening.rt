@@ -7,20 +7,21 @@ ghost use Rattle.bound_source.specs.WellFormed.{IsBound};
 ghost use Rattle.design_size.specs.Sizes.{IsWithinLimits};
 ghost use Rattle.flat_places.specs.Circuit.{IsCircuitOf};
 ghost use Rattle.flat_pieces.specs.Whole.{whole_piece};
+ghost use Rattle.flat_names.specs.Design.{IsDesign};
 ghost use Rattle.flattener.specs.declared.fault.FlatFault.{FlatFault};
 ghost use Rattle.flattener.specs.declared.fault.FlatFault.TheVariants.{Memory};
 ghost use Rattle.flattener.specs.Refused.{IsSound, IsRefused, AgreeButRings};
 ghost use Rattle.flattener.specs.Gathered.{AreEnds, ArePins};
-ghost use Rattle.flattener.specs.Walk.{IsDesign};
 ghost use Rattle.flattener.specs.Written.{piece_of};
 
 use crate::ends::{list_drivers, list_readers, list_reads, list_starts, port_bits};
 use crate::fault::FlatFault;
 use crate::shape::{LEVELS, Shape};
 use crate::solid::solid_instances;
-use crate::wiring::{Design, Wiring, wire_up};
+use crate::wiring::{Walk, Wiring, wire_up};
 use bound_source::Bound;
 use design_size::measure;
+use flat_names::Design;
 use flat_pieces::{circuits_are_one, ends_are_numbered, refused_have_none, whole_is_listed};
 use flat_places::places_are_counted;
 use rsfq_ids::circuit::{Driver, Flat, Pin, PortBit, Reader};
@@ -38,11 +39,16 @@ fn write_out(alloc: Global, design: Design) -> Result<Wiring, NoMemory>
     whole_is_listed(design.cells, design.bound);
     places_are_counted(design.bound);
     let top = &design.bound.modules.as_slice()[design.bound.top as usize];
+    let solid = solid_instances(alloc, design.bound.modules.as_slice(), design.sizes)?;
+    let walk = Walk {
+        design,
+        solid: solid.as_slice(),
+    };
     let mut wiring = Wiring::new(alloc);
     let offsets = wiring.place_wires(alloc, top.wires.as_slice())?;
     wire_up(
         alloc,
-        design,
+        walk,
         LEVELS,
         design.bound.top,
         None,
@@ -163,12 +169,10 @@ fn find_circuit(alloc: Global, bound: &Bound, cells: &CellTable) -> Result<Flat,
     ensures err { IfErr result (IsRefused cells.now bound.now) }
 {
     let sizes = measure(alloc, bound)?;
-    let solid = solid_instances(alloc, bound.modules.as_slice(), sizes.as_slice())?;
     let design = Design {
         bound,
         cells,
         sizes: sizes.as_slice(),
-        solid: solid.as_slice(),
     };
     let wiring = write_out(alloc, design)?;
     connect(alloc, design, wiring)

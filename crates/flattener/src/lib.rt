@@ -1,12 +1,11 @@
 //! Flattening: the circuit without hierarchy that a bound source comes to.
+//!
+//! The printed names of places in refusals are those of `flat_names`.
 #![tactic(auto)]
 
-mod begins;
 mod ends;
 mod fault;
-mod finding;
 mod flattening;
-mod names;
 mod offsets;
 mod shape;
 mod solid;

@@ -8,16 +8,14 @@ ghost use Rattle.design_size.specs.Hierarchy.{bit_count};
 ghost use Rattle.flat_places.specs.Names.{driver_name, reader_name};
 ghost use Rattle.flat_places.specs.Refusal.{HasNoDriver};
 ghost use Rattle.flat_pieces.specs.Whole.{ReadsNet};
+ghost use Rattle.flat_names.specs.Begins.{AreBegun};
 ghost use Rattle.flattener.specs.Refused.{IsSound, IsRefused};
-ghost use Rattle.flattener.specs.Begins.{AreBegun};
 ghost use Rattle.flattener.specs.Shape.{IsShaped, numbered_name, HasPins, NoDriverAt};
 
-use crate::begins::{Begins, begins_of};
 use crate::ends;
 use crate::fault::FlatFault;
-use crate::finding::place_name;
-use crate::wiring::Design;
 use alias_nets::{AliasFault, Link, resolve};
+use flat_names::{Begins, Design, begins_of, place_name};
 use flat_pieces::{
     numbers_drive_places, numbers_tell_readers, numbers_tell_rings, numbers_tell_two,
 };

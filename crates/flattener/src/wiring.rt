@@ -6,30 +6,28 @@ ghost use Rattle.std.specs.Option.{option_copied};
 ghost use Rattle.design_size.specs.Hierarchy.{bits_of, wires_of, IsDeeper};
 ghost use Rattle.flat_pieces.specs.Bits.{offsets_from, assign_links};
 ghost use Rattle.flat_pieces.specs.Paths.{longer};
+ghost use Rattle.flat_pieces.specs.Pieces.{empty, joined, only_places, only_links, reading_of, cell_piece, links_of_link, inside_piece, instance_at};
+ghost use Rattle.flat_names.specs.Design.{IsWithin};
 ghost use Rattle.flattener.specs.Wiring.{AreNumbered, IsNumberedLink};
 ghost use Rattle.flattener.specs.Written.{piece_of};
-ghost use Rattle.flat_pieces.specs.Pieces.{empty, joined, only_places, only_links, reading_of, cell_piece, links_of_link, inside_piece, instance_at};
-ghost use Rattle.flattener.specs.Walk.{IsDesign, IsInstanceOn, IsWithin, AreOffsets, HasRoom};
+ghost use Rattle.flattener.specs.Walk.{IsWalk, IsInstanceOn, AreOffsets, HasRoom};
 
-use crate::names::longer_path;
 use crate::offsets::{offsets_of, push_assign, push_linked, push_port};
 use alias_nets::Link;
-use bound_source::{Bound, BoundAssign, BoundInstance, BoundKind, BoundLink, BoundPort, BoundWire};
+use bound_source::{BoundAssign, BoundInstance, BoundKind, BoundLink, BoundPort, BoundWire};
 use design_size::{Size, width};
+use flat_names::{Design, longer_path};
 use rsfq_ids::circuit::FlatCell;
 use rsfq_ids::id::CellId;
 use rsfq_ids::list::{IdVec, List, NoMemory};
 use rsfq_ids::name::Name;
-use rsfq_ids::table::{CellRow, CellTable};
+use rsfq_ids::table::CellRow;
 use std::alloc::Global;
 
-/// A bound source within its limits.
+/// A design, and which of its instances the walk looks at.
 #[derive(Clone, Copy, Debug)]
-pub struct Design<'a> {
-    pub bound: &'a Bound,
-    pub cells: &'a CellTable,
-    /// The sizes of the modules.
-    pub sizes: &'a [Size],
+pub struct Walk<'a> {
+    pub design: Design<'a>,
     /// The places of the instances in each module that hold something, so that no copy of a module looks at the others.
     pub solid: &'a [List<usize>],
 }
@@ -168,28 +166,28 @@ fn inner_path(alloc: Global, size: Size, path: Option<&str>, name: &str) -> Resu
 #[cycle(wire_up)]
 pub fn wire_up(
     alloc: Global,
-    design: Design,
+    walk: Walk,
     levels: u32,
     at: u32,
     path: Option<&str>,
     offsets: &[u32],
     wiring: &mut Wiring,
 ) -> Result<(), NoMemory>
-    requires design { IsDesign design }
-    requires there { at < length design.bound.now.modules }
+    requires walk { IsWalk walk }
+    requires there { at < length walk.design.bound.now.modules }
     requires levels { levels ≤ 64 }
-    requires deep { ¬ IsDeeper design.bound.now levels at }
-    requires offsets { AreOffsets offsets.now (wires_of design.bound.now at) }
-    requires room { HasRoom (joined (piece_of wiring.old) (inside_piece design.cells.now design.bound.now levels at (option_copied path) offsets.now wiring.old.places)) }
+    requires deep { ¬ IsDeeper walk.design.bound.now levels at }
+    requires offsets { AreOffsets offsets.now (wires_of walk.design.bound.now at) }
+    requires room { HasRoom (joined (piece_of wiring.old) (inside_piece walk.design.cells.now walk.design.bound.now levels at (option_copied path) offsets.now wiring.old.places)) }
     ensures { OnOk result (piece_of wiring.new ≡ joined (piece_of wiring.old)
-        (inside_piece design.entry.cells.now design.entry.bound.now levels at (option_copied path.entry) offsets.now wiring.old.places)) }
+        (inside_piece walk.entry.design.cells.now walk.entry.design.bound.now levels at (option_copied path.entry) offsets.now wiring.old.places)) }
 {
-    let owner = &design.bound.modules.as_slice()[at as usize];
+    let owner = &walk.design.bound.modules.as_slice()[at as usize];
     wiring.add_assigns(alloc, owner.assigns.as_slice(), offsets)?;
     let instances = owner.instances.as_slice();
-    for place in design.solid[at as usize].as_slice() {
+    for place in walk.solid[at as usize].as_slice() {
         let instance = &instances[*place];
-        wire_instance(alloc, design, levels, instance, path, offsets, wiring)?;
+        wire_instance(alloc, walk, levels, instance, path, offsets, wiring)?;
     }
     Ok(())
 }
@@ -198,31 +196,31 @@ pub fn wire_up(
 #[cycle(wire_up)]
 fn wire_instance(
     alloc: Global,
-    design: Design,
+    walk: Walk,
     levels: u32,
     instance: &BoundInstance,
     path: Option<&str>,
     offsets: &[u32],
     wiring: &mut Wiring,
 ) -> Result<(), NoMemory>
-    requires design { IsDesign design }
-    requires instance { IsInstanceOn design.cells.now design.bound.now offsets.now instance.now }
+    requires walk { IsWalk walk }
+    requires instance { IsInstanceOn walk.design.cells.now walk.design.bound.now offsets.now instance.now }
     requires levels { levels ≤ 64 }
-    requires deep { IsWithin design.bound.now levels instance.now.kind }
-    requires room { HasRoom (joined (piece_of wiring.old) (instance_at design.cells.now design.bound.now levels (option_copied path) offsets.now wiring.old.places instance.now)) }
+    requires deep { IsWithin walk.design.bound.now levels instance.now.kind }
+    requires room { HasRoom (joined (piece_of wiring.old) (instance_at walk.design.cells.now walk.design.bound.now levels (option_copied path) offsets.now wiring.old.places instance.now)) }
     ensures { OnOk result (piece_of wiring.new ≡ joined (piece_of wiring.old)
-        (instance_at design.entry.cells.now design.entry.bound.now levels (option_copied path.entry) offsets.now wiring.old.places instance.now)) }
+        (instance_at walk.entry.design.cells.now walk.entry.design.bound.now levels (option_copied path.entry) offsets.now wiring.old.places instance.now)) }
 {
     let links = instance.links.as_slice();
     match instance.kind {
         BoundKind::Cell(number) => {
-            let row = &design.cells.rows.as_slice()[number as usize];
+            let row = &walk.design.cells.rows.as_slice()[number as usize];
             let path = longer_path(alloc, path, instance.name.as_str())?;
             wiring.add_cell(path, number, row, links, offsets)
         }
         BoundKind::Module(at) => {
-            let size = design.sizes[at as usize];
-            let owner = &design.bound.modules.as_slice()[at as usize];
+            let size = walk.design.sizes[at as usize];
+            let owner = &walk.design.bound.modules.as_slice()[at as usize];
             let inner = wiring.place_wires(alloc, owner.wires.as_slice())?;
             wiring.add_links(
                 alloc,
@@ -234,7 +232,7 @@ fn wire_instance(
             let path = inner_path(alloc, size, path, instance.name.as_str())?;
             wire_up(
                 alloc,
-                design,
+                walk,
                 levels - 1,
                 at,
                 Some(path.as_str()),

@@ -5,8 +5,9 @@ use Rattle.std.proofs.lemmas.Option.{slice_get_read}
 use Rattle.rsfq_ids.specs.declared.circuit.Reader.{Reader}
 use Rattle.rsfq_ids.specs.declared.circuit.Reader.TheVariants.{Pin}
 use Rattle.rsfq_ids.specs.declared.circuit.FlatCell.{FlatCell}
+use Rattle.flat_names.proofs.Lists.{read_from}
 use Rattle.flattener.specs.Ends.{cell_readers}
-use Rattle.flattener.proofs.Lists.{numbered_step, read_from}
+use Rattle.flattener.proofs.Lists.{numbered_step}
 use Rattle.flattener.proofs.Listing.{pins_at}
 use Rattle.flattener.proofs.ends.list_readers.Goals as goal
 

@@ -5,12 +5,12 @@ use Rattle.rsfq_ids.specs.declared.circuit.PortBit.{PortBit}
 use Rattle.rsfq_ids.specs.declared.circuit.Pin.{Pin}
 use Rattle.rsfq_ids.specs.WellFormed.{drivers_of, readers_of}
 use Rattle.flat_pieces.specs.Whole.{IsShapeOf, ReadsNet}
+use Rattle.flat_names.proofs.Lists.{ok_then}
 use Rattle.flattener.specs.declared.shape.Shape.{Shape}
 use Rattle.flattener.specs.Ends.{input_places, output_places}
 use Rattle.flattener.specs.Gathered.{ArePins}
 use Rattle.flattener.specs.Shape.{HasPins}
 use Rattle.flattener.specs.Written.{piece_of}
-use Rattle.flattener.proofs.Lists.{ok_then}
 use Rattle.flattener.proofs.Connecting.{shaped}
 use Rattle.flattener.proofs.Resolving.{same_shape}
 use Rattle.flattener.proofs.flattening.find_pins.Goals as goal

@@ -5,9 +5,9 @@ use Rattle.rsfq_ids.specs.WellFormed.{drivers_of, readers_of}
 use Rattle.bound_source.specs.declared.bound.BoundPort.{BoundPort}
 use Rattle.bound_source.specs.WellFormed.{IsModule}
 use Rattle.flat_places.specs.Circuit.{port_bits}
+use Rattle.flat_names.proofs.Lists.{all_got, read_at}
 use Rattle.flattener.specs.Ends.{input_places, output_places}
 use Rattle.flattener.specs.Written.{piece_of}
-use Rattle.flattener.proofs.Lists.{all_got, read_at}
 use Rattle.flattener.proofs.Connecting.{few_port_bits, is_shape_of, few_cells_of, rows_of}
 use Rattle.flattener.proofs.Resolving.{same_shape}
 use Rattle.flattener.proofs.flattening.list_ends.Goals as goal

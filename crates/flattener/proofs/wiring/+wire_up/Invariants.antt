@@ -13,5 +13,5 @@ decreases-wire_up l = 2 * l.levels + 1
 
 abbrev pub invariant-wire_up-loop-place : goal.invariant-wire_up-loop-place
 invariant-wire_up-loop-place l =
-    joined (piece_of l.wiring) (pieces_from (instance_at l.design.cells.now l.design.bound.now l.levels (option_copied l.path) l.offsets) l.wiring.places (picked l.instances (drop l.place-index l.place-items)))
-    ≡ joined (piece_of l.fn.wiring) (inside_piece l.design.cells.now l.design.bound.now l.levels l.at (option_copied l.path) l.offsets l.fn.wiring.places)
+    joined (piece_of l.wiring) (pieces_from (instance_at l.walk.design.cells.now l.walk.design.bound.now l.levels (option_copied l.path) l.offsets) l.wiring.places (picked l.instances (drop l.place-index l.place-items)))
+    ≡ joined (piece_of l.fn.wiring) (inside_piece l.walk.design.cells.now l.walk.design.bound.now l.levels l.at (option_copied l.path) l.offsets l.fn.wiring.places)

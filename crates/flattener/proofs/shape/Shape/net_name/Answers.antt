@@ -3,8 +3,8 @@ use Rattle.std.specs.Prelude.{slice_get}
 use Rattle.std.proofs.lemmas.Option.{slice_get-get_or}
 use Rattle.rsfq_ids.specs.declared.circuit.Driver.{Driver}
 use Rattle.flat_places.specs.Names.{driver_name}
+use Rattle.flat_names.proofs.Lists.{ok_then}
 use Rattle.flattener.specs.Ends.{printed_driver}
-use Rattle.flattener.proofs.Lists.{ok_then}
 use Rattle.flattener.proofs.Resolving.{net_fits, net_printed}
 use Rattle.flattener.proofs.shape.Shape.net_name.Goals as goal
 

@@ -3,8 +3,8 @@ use Rattle.std.specs.Prelude.{slice_get}
 use Rattle.std.proofs.lemmas.Option.{slice_get-get_or}
 use Rattle.rsfq_ids.specs.declared.circuit.Reader.{Reader}
 use Rattle.flat_places.specs.Names.{reader_name}
+use Rattle.flat_names.proofs.Lists.{ok_then}
 use Rattle.flattener.specs.Ends.{printed_reader}
-use Rattle.flattener.proofs.Lists.{ok_then}
 use Rattle.flattener.proofs.Resolving.{pin_fits, pin_printed_as}
 use Rattle.flattener.proofs.shape.Shape.pin_name.Goals as goal
 

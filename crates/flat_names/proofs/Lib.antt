@@ -1,0 +1,5 @@
+pub mod Lists
+pub mod Modules
+pub mod Placing
+pub mod Begun
+pub mod Sampled

@@ -1,0 +1,4 @@
+pub mod Design
+pub mod Found
+pub mod Begins
+pub mod Sample

@@ -1,0 +1,120 @@
+//! The printed name of a place, found by its number.
+
+ghost use Rattle.std.specs.Prelude.{◌≡◌, ◌+◌, ◌<◌, ◌≤◌, length, sum_by, IfOk, MatchOption, MatchResult};
+ghost use Rattle.std.specs.Option.{option_copied};
+ghost use Rattle.bound_source.specs.Bits.{width_of};
+ghost use Rattle.design_size.specs.Hierarchy.{instances_of, bits_of, bit_count, IsDeeper};
+ghost use Rattle.flat_names.specs.Design.{IsDesign};
+ghost use Rattle.flat_names.specs.Found.{IsInWire, size_bits, IsInInstance, IsPlaceNamed};
+ghost use Rattle.flat_names.specs.Begins.{AreBegins, AreBegun};
+
+use crate::begins::{Begins, last_begin};
+use crate::design::Design;
+use crate::names::{bit_name, longer_path};
+use bound_source::{BoundKind, BoundWire};
+use rsfq_ids::list::NoMemory;
+use rsfq_ids::name::Name;
+use std::alloc::Global;
+
+/// A wire by its place in a list, and a bit of it.
+#[derive(Clone, Copy, Debug)]
+struct Found {
+    at: usize,
+    rest: u64,
+}
+
+/// An instance by its place in a list, the module that it is of, and the number of a place inside it.
+#[derive(Clone, Copy, Debug)]
+struct Inside {
+    at: usize,
+    inner: u32,
+    rest: u64,
+}
+
+/// The wire that the bit of a number is of; or the number less all bits.
+fn find_wire(wires: &[BoundWire], begins: &[u64], number: u64) -> Result<Found, u64>
+    requires begins { AreBegins (λ wire. width_of wire.range) wires.now begins.now }
+    requires few { number ≤ 2000000 }
+    ensures { MatchResult result (IsInWire wires.now number) (λ rest. number ≡ bits_of wires.now + rest) }
+{
+    let at = last_begin(begins, number);
+    let rest = number - begins[at];
+    if at < wires.len() {
+        Ok(Found { at, rest })
+    } else {
+        Err(rest)
+    }
+}
+
+/// The instance of a module that the place of a number, less the bits of the own wires, lies in, if it lies in one.
+fn find_instance(design: Design, at: u32, begins: &[u64], number: u64) -> Option<Inside>
+    requires there { at < length design.bound.now.modules }
+    requires begins { AreBegins (size_bits design.sizes.now) (instances_of design.bound.now at) begins.now }
+    requires few { number ≤ 2000000 }
+    ensures { MatchOption result (sum_by (size_bits design.entry.sizes.now) (instances_of design.entry.bound.now at) ≤ number)
+        (IsInInstance design.entry.sizes.now (instances_of design.entry.bound.now at) number) }
+{
+    let owner = &design.bound.modules.as_slice()[at as usize];
+    let instances = owner.instances.as_slice();
+    let place = last_begin(begins, number);
+    let rest = number - begins[place];
+    if place == instances.len() {
+        return None;
+    }
+    let instance = &instances[place];
+    match instance.kind {
+        BoundKind::Module(inner) => Some(Inside {
+            at: place,
+            inner,
+            rest,
+        }),
+        BoundKind::Cell(_) => unreachable!(),
+    }
+}
+
+/// The printed name of the place of a number in a module that a path leads to.
+///
+/// Takes as many steps as there are levels, each with two searches by halving.
+pub fn place_name(
+    alloc: Global,
+    design: Design,
+    begins: &[Begins],
+    levels: u32,
+    at: u32,
+    path: Option<&str>,
+    number: u64,
+) -> Result<Name, NoMemory>
+    requires design { IsDesign design }
+    requires begins { AreBegun design.sizes.now design.bound.now.modules begins.now }
+    requires there { at < length design.bound.now.modules }
+    requires levels { levels ≤ 64 }
+    requires deep { ¬ IsDeeper design.bound.now levels at }
+    requires few { bit_count design.bound.now levels at ≤ 2000000 }
+    requires number { number < bit_count design.bound.now levels at }
+    ensures { IfOk result (IsPlaceNamed design.entry.bound.now levels at (option_copied path.entry) number) }
+{
+    let owner = &design.bound.modules.as_slice()[at as usize];
+    let begin = &begins[at as usize];
+    let rest = match find_wire(owner.wires.as_slice(), begin.wires.as_slice(), number) {
+        Ok(found) => {
+            let wire = &owner.wires.as_slice()[found.at];
+            let own = bit_name(alloc, wire.name.as_str(), wire.range, found.rest as u32)?;
+            return longer_path(alloc, path, own.as_str());
+        }
+        Err(rest) => rest,
+    };
+    let Some(found) = find_instance(design, at, begin.instances.as_slice(), rest) else {
+        unreachable!()
+    };
+    let instance = &owner.instances.as_slice()[found.at];
+    let path = longer_path(alloc, path, instance.name.as_str())?;
+    place_name(
+        alloc,
+        design,
+        begins,
+        levels - 1,
+        found.inner,
+        Some(path.as_str()),
+        found.rest,
+    )
+}

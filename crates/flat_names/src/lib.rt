@@ -1,0 +1,18 @@
+//! The printed names of the places of a bound source, found by their numbers.
+//!
+//! [`begins_of`] lists where the bits of wires and instances begin, once for a whole source; with that list [`place_name`] finds a place by its
+//! number and prints it. Beside them the names that paths and bits have.
+#![tactic(auto)]
+
+mod begins;
+mod design;
+mod finding;
+mod names;
+
+pub use begins::{Begins, begins_of};
+pub use design::Design;
+pub use finding::place_name;
+pub use names::{bit_name, longer_path};
+
+#[cfg(test)]
+mod tests;
