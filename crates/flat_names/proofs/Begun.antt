@@ -2,7 +2,7 @@
 use Rattle.std.proofs.Common.{◌≡◌, ◌∙◌, ◌+◌, ◌-◌, ◌<◌, ◌≤◌, ℕ, min, List, [], ◌∷◌, ◌++◌, take, length, sum_by, get_or, Some, inl, inr, sym, ap, subst, arith, length-append}
 use Rattle.std.specs.Prelude.{slice_get}
 use Rattle.std.proofs.lemmas.Bool.{cases_lt}
-use Rattle.std.proofs.lemmas.List.{get_or_append_left, take_all, get_or_default}
+use Rattle.std.proofs.lemmas.List.{get_or_append_left, get_or_default}
 use Rattle.std.proofs.lemmas.List.Sums.{sum_by_more}
 use Rattle.std.proofs.lemmas.Option.{slice_get_within, get_or_from_slice_get}
 use Rattle.std.proofs.Math.Seq.{get_or-append_seam}
@@ -65,17 +65,6 @@ lies_in count items begins number at x b small there low high =
       numbered = omega (arith, begin, low, small);
       within = omega (arith, begin, next, above, more, same, low, small);
     }
-
--- the number is behind all items
-pub lies_past : {X : Type 0} (count : X → ℕ) (items : List X) (begins : List ℕ) (number at : ℕ) → AreBegins count items begins → number ≤ 2000000 → length items ≤ at → at < length begins → get_or begins at 0 ≤ number → number ≡ sum_by count items + (number - get_or begins at 0)
-lies_past count items begins number at b small past there low =
-    let begin = b.each at there in
-    let whole = ap (sum_by count) (take_all at items past) in
-    omega (arith, begin, whole, low, small)
-
--- the first begin is 0
-pub starts_at_zero : {X : Type 0} (count : X → ℕ) (items : List X) (begins : List ℕ) → AreBegins count items begins → get_or begins 0 0 ≡ 0
-starts_at_zero count items begins b = let counted = b.counted in let first = b.each 0 (omega (arith, counted)) in omega (arith, first)
 
 -- ---- modules
 

@@ -10,7 +10,7 @@ use Rattle.rsfq_ids.specs.declared.circuit.Driver.{Driver}
 use Rattle.bound_source.specs.declared.bound.Bound.{Bound}
 use Rattle.design_size.specs.declared.limits.SizeFault.{SizeFault}
 use Rattle.design_size.specs.declared.limits.SizeFault.TheVariants as limit
-use Rattle.design_size.specs.Sizes.{IsWithinLimits, PassesLimit}
+use Rattle.design_size.specs.Sizes.{PassesLimit}
 use Rattle.flat_places.specs.Circuit.{IsCircuitOf}
 use Rattle.flat_places.specs.Names.{place_name, driver_name, reader_name}
 use Rattle.flat_places.specs.Places.{Place, places_of}

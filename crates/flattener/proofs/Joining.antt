@@ -1,9 +1,8 @@
 -- Pieces behind one another.
-use Rattle.std.proofs.Common.{◌≡◌, ◌∙◌, ◌+◌, ℕ, List, ◌++◌, Option, refl, sym, ap, arith, append_assoc}
-use Rattle.std.proofs.lemmas.List.{append-nil}
+use Rattle.std.proofs.Common.{◌≡◌, ◌∙◌, ℕ, List, Option, refl, ap, arith, append_assoc}
 use Rattle.rsfq_ids.specs.declared.circuit.FlatCell.{FlatCell}
 use Rattle.alias_nets.specs.declared.link.Link.{Link}
-use Rattle.flat_pieces.specs.Pieces.{Piece, empty, joined, only_places, only_links}
+use Rattle.flat_pieces.specs.Pieces.{Piece, empty, joined}
 
 -- pieces of the same parts are the same
 pub same_piece : (a b : Piece) → a.places ≡ b.places → a.links ≡ b.links → a.cells ≡ b.cells → a.reads ≡ b.reads → a.outputs ≡ b.outputs → a ≡ b
@@ -19,13 +18,3 @@ joined_assoc a b c = same_piece (joined (joined a b) c) (joined a (joined b c)) 
 
 pub empty_joined : (a : Piece) → joined empty a ≡ a
 empty_joined a = same_piece (joined empty a) a (omega arith) refl refl refl refl
-
--- links alone were added
-pub links_added : (a b : Piece) (links : List Link) → b.places ≡ a.places → b.links ≡ a.links ++ links → b.cells ≡ a.cells → b.reads ≡ a.reads → b.outputs ≡ a.outputs → b ≡ joined a (only_links links)
-links_added a b links p l c r o =
-    same_piece b (joined a (only_links links)) (omega (arith, p)) l (c ∙ sym (append-nil a.cells)) (r ∙ sym (append-nil a.reads)) (o ∙ sym (append-nil a.outputs))
-
--- places alone were added
-pub places_added : (a b : Piece) (count : ℕ) → b.places ≡ a.places + count → b.links ≡ a.links → b.cells ≡ a.cells → b.reads ≡ a.reads → b.outputs ≡ a.outputs → b ≡ joined a (only_places count)
-places_added a b count p l c r o =
-    same_piece b (joined a (only_places count)) p (l ∙ sym (append-nil a.links)) (c ∙ sym (append-nil a.cells)) (r ∙ sym (append-nil a.reads)) (o ∙ sym (append-nil a.outputs))

@@ -43,29 +43,6 @@ flat_step f xs i d done whole low e =
     ∙ ap (λ ys. done ++ flat_map f ys) (sym (drop-cons xs i d low))
     ∙ e
 
-pub map_step : {X Y : Type 0} (f : X → Y) (xs : List X) (i : ℕ) (d : X) (done whole : List Y) → i < length xs → done ++ map f (drop i xs) ≡ whole → (done ++ f (get_or xs i d) ∷ []) ++ map f (drop (i + 1) xs) ≡ whole
-map_step f xs i d done whole low e =
-    append_assoc done (f (get_or xs i d) ∷ []) (map f (drop (i + 1) xs))
-    ∙ ap (λ k. done ++ (f (get_or xs i d) ∷ map f (drop k xs))) (add-one i)
-    ∙ ap (λ ys. done ++ map f ys) (sym (drop-cons xs i d low))
-    ∙ e
-
-pub count_step : {X Y : Type 0} (f : ℕ × X → Y) (xs : List X) (i : ℕ) (d : X) (done whole : List Y) → i < length xs → done ++ map f (enumerate_from i (drop i xs)) ≡ whole → (done ++ f (i, get_or xs i d) ∷ []) ++ map f (enumerate_from (i + 1) (drop (i + 1) xs)) ≡ whole
-count_step f xs i d done whole low e =
-    append_assoc done (f (i, get_or xs i d) ∷ []) (map f (enumerate_from (i + 1) (drop (i + 1) xs)))
-    ∙ ap (λ k. done ++ (f (i, get_or xs i d) ∷ map f (enumerate_from (i + 1) (drop k xs)))) (add-one i)
-    ∙ ap (λ ys. done ++ map f (enumerate_from i ys)) (sym (drop-cons xs i d low))
-    ∙ e
-
-pub zip_step : {X Y : Type 0} (f : X × X → Y) (xs ys : List X) (i : ℕ) (d : X) (done whole : List Y) → i < length xs → i < length ys → done ++ map f (zip (drop i xs) (drop i ys)) ≡ whole →
-    (done ++ f (get_or xs i d, get_or ys i d) ∷ []) ++ map f (zip (drop (i + 1) xs) (drop (i + 1) ys)) ≡ whole
-zip_step f xs ys i d done whole low high e =
-    append_assoc done (f (get_or xs i d, get_or ys i d) ∷ []) (map f (zip (drop (i + 1) xs) (drop (i + 1) ys)))
-    ∙ ap (λ k. done ++ (f (get_or xs i d, get_or ys i d) ∷ map f (zip (drop k xs) (drop k ys)))) (add-one i)
-    ∙ ap (λ zs. done ++ map f (zip zs (get_or ys i d ∷ drop (suc i) ys))) (sym (drop-cons xs i d low))
-    ∙ ap (λ zs. done ++ map f (zip (drop i xs) zs)) (sym (drop-cons ys i d high))
-    ∙ e
-
 -- as many pairs as the shorter list has items were written
 pub zip_end : {X Y : Type 0} (f : X × X → Y) (xs ys : List X) (i : ℕ) (done whole : List Y) → min (length xs) (length ys) ≤ i → done ++ map f (zip (drop i xs) (drop i ys)) ≡ whole → done ≡ whole
 zip_end {X} {Y} f xs ys i done whole high e =

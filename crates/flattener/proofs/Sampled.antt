@@ -29,9 +29,6 @@ sample_part wire low = All-cons (IsPart sample_wires) (record { wire = wire; bit
   go (suc (suc (suc (suc zero)))) low = record { wire = record { name = codes "m"; range = None }; there = refl; lies = record { some = omega arith; within = omega arith } }
   go (suc (suc (suc (suc (suc wire))))) low = absurd (omega arith)
 
-pub sample_assign : (to from : ℕ) → to < 5 → from < 5 → IsAssign sample_wires (record { to = record { wire = to; bit = 0; count = 1 } ∷ []; from = record { wire = from; bit = 0; count = 1 } ∷ [] })
-sample_assign to from low high = record { to = sample_part to low; from = sample_part from high; width = refl }
-
 few_bits : All (λ (port : BoundPort). width_of port.range ≤ 4096) sample_ports
 few_bits k d low = go k low where
   go : (k : ℕ) → k < 3 → width_of (slice_index_or sample_ports k d).range ≤ 4096
