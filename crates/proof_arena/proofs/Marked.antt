@@ -161,10 +161,6 @@ just_made n len old items none no_len is =
     let size : n - len ≡ n = omega arith in
     rw (is, none, size) (ap (map (λ (s : ℕ). s == 1)) (take_none n) ∙ map_same 1 n (omega arith))
 
-pub written_one : (now lit : ℕ) (stamps : List ℕ) (marked : List Bool) → map (λ (s : ℕ). s == now) stamps ≡ marked
-    → map (λ (s : ℕ). s == now) (set stamps lit now) ≡ set marked lit true
-written_one now lit stamps marked is = one_marked now stamps lit ∙ ap (λ bs. set bs lit true) is
-
 pub stamped : (now : ℕ) (stamps beyond : List ℕ) (k : ℕ) → k < length (map (λ (s : ℕ). s == now) stamps)
     → falses_of (record { table = map (λ (s : ℕ). s == now) (set stamps k now); beyond = beyond })
     ≡ makes_false (falses_of (record { table = map (λ (s : ℕ). s == now) stamps; beyond = beyond })) k

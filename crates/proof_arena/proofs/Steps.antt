@@ -59,14 +59,6 @@ step_clause a k s le lt is =
 pub clauses_count : (a : Inside) → length (clauses_of (log_of a)) ≡ length a.cnf.now.clauses + length a.steps.items
 clauses_count a = simp (length-append, length-map)
 
--- the clause that was added has the next id
-pub added_clause : (log : Log) (s : LogStep) (k : ℕ) → k ≡ length (clauses_of log) → slice_get (clauses_of (record log { steps = log.steps ++ s ∷ [] })) k ≡ Some s.lits
-added_clause log s k is =
-    let all : clauses_of (record log { steps = log.steps ++ s ∷ [] }) ≡ clauses_of log ++ s.lits ∷ [] =
-    ap (λ l. log.given ++ l) (map-append (λ (t : LogStep). t.lits) log.steps (s ∷ [])) ∙ sym (append_assoc log.given (lits_of log.steps) (s.lits ∷ [])) in
-    let none : k - length (clauses_of log) ≡ 0 = omega arith in
-    rw all (slice_get-second (clauses_of log) (s.lits ∷ []) k (omega arith) ∙ ap (slice_get (s.lits ∷ [])) none)
-
 no_items : {X : Type 0} (xs : List X) → length xs ≡ 0 → xs ≡ []
 no_items [] e = refl
 no_items (x ∷ xs) e = absurd (omega arith)
