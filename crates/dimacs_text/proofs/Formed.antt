@@ -1,21 +1,20 @@
 -- What is read is a well-formed formula.
-use Rattle.std.proofs.Common.{◌≡◌, ◌∙◌, ◌<◌, ◌≤◌, ◌+◌, ◌-◌, ◌*◌, ℕ, Bool, true, false, zero, suc, refl, sym, ap, subst, arith, take, drop, List, [], ◌∷◌, ◌++◌, length, get_or, inl, inr, Option, Some, None, Result, Ok, Err}
-use Rattle.std.specs.Prelude.{◌==◌, ◌&&◌, ◌||◌, not, nat_lt, nat_le, ◌≢◌, option_map, cond}
-use Rattle.std.specs.Option.{option_and_then}
+use Rattle.std.proofs.Common.{◌≡◌, ◌<◌, ◌≤◌, ◌*◌, ℕ, Bool, true, false, zero, suc, refl, sym, subst, arith, List, [], ◌∷◌, length, get_or, inl, inr, Option, Some, None, Result, Ok, Err}
+use Rattle.std.specs.Prelude.{◌==◌, ◌&&◌, ◌||◌, not, ◌≢◌, cond}
 use Rattle.std.specs.List.{All, AllPairs, list_any}
-use Rattle.std.proofs.lemmas.Bool.{cases_Bool, eqb-true, eq-eqb}
+use Rattle.std.proofs.lemmas.Bool.{cases_Bool, eq-eqb}
 use Rattle.std.proofs.lemmas.Bool.Decides.{leb_tells, eqb_tells}
 use Rattle.std.proofs.lemmas.List.Elements.{All-nil, All-push, All-head, All-tail}
 use Rattle.std.proofs.lemmas.List.Quantifiers.{all_pairs_push}
 use Rattle.rsfq_ids.specs.Formula.{Clause, IsOver, IsFormula}
 use Rattle.rsfq_ids.specs.declared.circuit.Cnf.{Cnf}
-use Rattle.dimacs_text.specs.Parts.{Part, front, words, lines, is_empty, is_space, is_blank}
-use Rattle.dimacs_text.specs.Number.{number_up_to, is_numeral, signed_of, literal_of}
+use Rattle.dimacs_text.specs.Parts.{Part, words, is_empty, is_blank}
+use Rattle.dimacs_text.specs.Number.{signed_of, literal_of}
 use Rattle.dimacs_text.specs.Reading.{Said, with_literal, with_literals, once, after_number, after_word, after_words, after_line, after_lines, unless_fault, at_end, nothing_said, after_head, is_comment}
 use Rattle.dimacs_text.specs.declared.number.Signed.{Signed}
 use Rattle.dimacs_text.specs.declared.head.Head.{Head}
 use Rattle.dimacs_text.specs.declared.fault.TextFault.{TextFault}
-use Rattle.std.specs.Str.Parse.{digits_value}
+use Rattle.dimacs_text.proofs.Cases.{no_ok, same_ok}
 
 abbrev IsOnce : Clause → Type 0
 IsOnce clause = AllPairs (λ one other. one ≢ other) clause
@@ -25,12 +24,6 @@ pub record IsFormed (vars : ℕ) (said : Said) : Type 0 where
   pub lits : All (IsOver vars) said.closed
   pub once : All IsOnce said.closed
   pub pending : IsOver vars said.pending
-
-no_ok : {A B : Type 0} (f : B) (x : A) → Err f ≡ Ok x → ⊥
-no_ok f x e = cc
-
-same_ok : {A B : Type 0} (x y : A) → ◌≡◌ {A = Result A B} (Ok x) (Ok y) → x ≡ y
-same_ok x y e = cc
 
 not_in : (lit : ℕ) (clause : Clause) → list_any (λ other. lit == other) clause ≡ false → (k : ℕ) (d : ℕ) → k < length clause → get_or clause k d ≢ lit
 not_in lit [] none k d lt is = absurd (omega arith)

@@ -74,9 +74,6 @@ grouped : (f g : Said → Result Said TextFault) (r : Result Said TextFault) →
 grouped f g (Ok s) = refl
 grouped f g (Err e) = refl
 
-pub middle_newline : (vars : ℕ) (said : Said) (at : ℕ) (bs : List ℕ) → middle vars said (lines at (10 ∷ bs)) ≡ after_lines vars said (lines (at + 1) bs)
-middle_newline vars said at bs = refl
-
 pub middle_blank : (vars : ℕ) (said : Said) (at b : ℕ) (bs : List ℕ) → is_blank b ≡ true → (b == 10) ≡ false → middle vars said (lines at (b ∷ bs)) ≡ middle vars said (lines (at + 1) bs)
 middle_blank vars said at b [] blank other =
     ap (middle vars said) (skip is_newline at b [] other)

@@ -1,5 +1,5 @@
 -- The text of a formula says the formula.
-use Rattle.std.proofs.Common.{◌≡◌, ◌∙◌, ◌<◌, ◌≤◌, ◌+◌, ◌-◌, ◌*◌, ◌/◌, ◌^◌, ℕ, Bool, true, false, zero, suc, refl, sym, ap, subst, arith, take, drop, List, [], ◌∷◌, ◌++◌, length, get_or, Option, Some, None, Result, Ok, Err, decimal, append_assoc, append-nil, length-append, eq-eqb}
+use Rattle.std.proofs.Common.{◌≡◌, ◌∙◌, ◌<◌, ◌≤◌, ◌+◌, ◌*◌, ℕ, Bool, true, false, zero, suc, refl, sym, ap, subst, arith, drop, List, [], ◌∷◌, ◌++◌, length, get_or, Some, Result, Ok, decimal, append_assoc, append-nil, length-append, eq-eqb}
 use Rattle.std.specs.Prelude.{◌==◌, ◌≢◌, option_map}
 use Rattle.std.specs.List.{All, AllPairs, list_any, flat_map}
 use Rattle.std.specs.Option.{option_and_then}
@@ -7,11 +7,10 @@ use Rattle.std.proofs.lemmas.List.Elements.{All-head, All-tail}
 use Rattle.std.proofs.lemmas.List.Folds.{list_any-append}
 use Rattle.rsfq_ids.specs.Formula.{Clause, IsOver, IsFormula}
 use Rattle.rsfq_ids.specs.declared.circuit.Cnf.{Cnf}
-use Rattle.dimacs_text.specs.Parts.{Part, front, parts, words, lines, is_newline, is_blank, is_space}
+use Rattle.dimacs_text.specs.Parts.{Part, front, words, lines, is_newline, is_blank, is_space}
 use Rattle.dimacs_text.specs.Number.{number_up_to, signed_of, literal_of}
 use Rattle.dimacs_text.specs.Text.{literal_text, spaced_literal, clause_line, dimacs_of}
 use Rattle.dimacs_text.specs.Reading.{Said, with_literals, once, after_word, after_words, after_line, after_lines, unless_fault, at_end, count_of, sizes_of, head_of, is_comment, without_comments, from_head, with_head, reading}
-use Rattle.dimacs_text.specs.declared.number.Signed.{Signed}
 use Rattle.dimacs_text.specs.declared.head.Head.{Head}
 use Rattle.dimacs_text.specs.declared.fault.TextFault.{TextFault}
 use Rattle.dimacs_text.proofs.WordSays.{says_zero, says_literal}
@@ -106,13 +105,13 @@ clause_lines vars closed at (clause ∷ clauses) small over pairs =
 
 -- ---- the head
 
-front_is : (p : ℕ → Bool) (xs : List ℕ) (b : ℕ) (rest : List ℕ) → list_any p xs ≡ false → p b ≡ true → front p (xs ++ b ∷ rest) ≡ xs
+pub front_is : (p : ℕ → Bool) (xs : List ℕ) (b : ℕ) (rest : List ℕ) → list_any p xs ≡ false → p b ≡ true → front p (xs ++ b ∷ rest) ≡ xs
 front_is p [] b rest free ends = rw ends refl
 front_is p (x ∷ xs) b rest free ends =
     let here : p x ≡ false = or_left (p x) (list_any p xs) free in
     rw here (ap (λ (l : List ℕ). x ∷ l) (front_is p xs b rest (or_right (p x) (list_any p xs) free) ends))
 
-rest_of : (xs ys : List ℕ) → drop (length xs) (xs ++ ys) ≡ ys
+pub rest_of : (xs ys : List ℕ) → drop (length xs) (xs ++ ys) ≡ ys
 rest_of [] ys = refl
 rest_of (x ∷ xs) ys = rest_of xs ys
 

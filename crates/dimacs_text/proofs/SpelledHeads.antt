@@ -19,18 +19,9 @@ use Rattle.dimacs_text.proofs.PartLemmas.{take_front}
 use Rattle.dimacs_text.proofs.HeadSays.{as_head, is_head, is_no_head}
 use Rattle.dimacs_text.proofs.Fields.{up_to, up_to_back, field_free}
 use Rattle.dimacs_text.proofs.Middle.{no_newline}
+use Rattle.dimacs_text.proofs.ReadBack.{front_is, rest_of}
 
 -- ---- a spelled head is read
-
-front_is : (p : ℕ → Bool) (xs : List ℕ) (b : ℕ) (rest : List ℕ) → list_any p xs ≡ false → p b ≡ true → front p (xs ++ b ∷ rest) ≡ xs
-front_is p [] b rest free ends = rw ends refl
-front_is p (x ∷ xs) b rest free ends =
-    let here : p x ≡ false = or_left (p x) (list_any p xs) free in
-    rw here (ap (λ (l : List ℕ). x ∷ l) (front_is p xs b rest (or_right (p x) (list_any p xs) free) ends))
-
-rest_of : (xs ys : List ℕ) → drop (length xs) (xs ++ ys) ≡ ys
-rest_of [] ys = refl
-rest_of (x ∷ xs) ys = rest_of xs ys
 
 no_space : (xs : List ℕ) → list_any is_blank xs ≡ false → list_any is_space xs ≡ false
 no_space [] free = refl

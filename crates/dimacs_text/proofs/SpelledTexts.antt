@@ -14,6 +14,7 @@ use Rattle.dimacs_text.specs.declared.fault.TextFault.{TextFault}
 use Rattle.dimacs_text.specs.declared.fault.TextWhy.TheVariants.{Memory}
 use Rattle.dimacs_text.proofs.Cases.{no_ok, same_ok, and_true, and_both, not_true}
 use Rattle.dimacs_text.proofs.Written.{part_first}
+use Rattle.dimacs_text.proofs.WordSays.{passed, stands}
 use Rattle.dimacs_text.proofs.HeadSays.{as_head}
 use Rattle.dimacs_text.proofs.Middle.{middle}
 use Rattle.dimacs_text.proofs.Tails.{said, tail_read}
@@ -27,12 +28,6 @@ use Rattle.dimacs_text.proofs.ClosedTexts.{to_closed, from_closed}
 
 abbrev part : ℕ → List ℕ → Part
 part at bytes = record { start = at; bytes = bytes }
-
-dropped : (line : Part) (rest : List Part) → is_comment line.bytes ≡ true → without_comments (line ∷ rest) ≡ without_comments rest
-dropped line rest e = rw e refl
-
-stays : (line : Part) (rest : List Part) → is_comment line.bytes ≡ false → without_comments (line ∷ rest) ≡ line ∷ rest
-stays line rest e = rw e refl
 
 comment_says : (line : List ℕ) → is_comment_line line ≡ true → is_comment line ≡ true
 comment_says line e = (and_true (not (list_any is_newline line)) (is_comment line) e).1
@@ -49,7 +44,7 @@ comments_dropped (line ∷ comments) at rest all =
       more.0,
       ap (λ (l : List ℕ). without_comments (lines at l)) (append_assoc line (10 ∷ in_lines comments) rest)
           ∙ ap without_comments (part_first is_newline at line 10 (in_lines comments ++ rest) (comment_free line both.0) refl)
-          ∙ dropped (part at line) (lines (at + suc (length line)) (in_lines comments ++ rest)) (comment_says line both.0)
+          ∙ passed (part at line) (lines (at + suc (length line)) (in_lines comments ++ rest)) (comment_says line both.0)
           ∙ more.1,
     )
 
@@ -68,7 +63,7 @@ opened text comments head rest is =
       ap (λ (l : List ℕ). from_head (length text) (without_comments (lines 0 l))) is.text_is
           ∙ ap (from_head (length text)) skipped.1
           ∙ ap (λ (ls : List Part). from_head (length text) (without_comments ls)) (part_first is_newline skipped.0 head 10 rest is.free refl)
-          ∙ ap (from_head (length text)) (stays (part skipped.0 head) (lines (skipped.0 + suc (length head)) rest) is.other),
+          ∙ ap (from_head (length text)) (stands (part skipped.0 head) (lines (skipped.0 + suc (length head)) rest) is.other),
     )
 
 -- ---- a spelled text is read

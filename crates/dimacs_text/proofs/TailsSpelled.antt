@@ -7,6 +7,7 @@ use Rattle.dimacs_text.specs.Parts.{is_blank, is_newline}
 use Rattle.dimacs_text.specs.Reading.{once}
 use Rattle.dimacs_text.specs.Spelled.{in_lines, is_comment_line, WritesNumber, SpellsLiteral, begins_blank, is_between, IsGap, each_once, SpellsClause}
 use Rattle.dimacs_text.proofs.Cases.{and_true, and_both}
+use Rattle.dimacs_text.proofs.Fronts.{same_tail}
 use Rattle.dimacs_text.proofs.Fields.{field_begins}
 use Rattle.dimacs_text.proofs.EachOnce.{once_is}
 use Rattle.dimacs_text.proofs.Tails.{Tail, nothing, blank_first, comment_first, literal_first, end_first}
@@ -42,14 +43,11 @@ blank_gap b gap blank is = elim is [
 note_between : (note : List ℕ) → list_any is_newline note ≡ false → is_between (99 ∷ note) ≡ true
 note_between note free = rw free refl
 
-same_rest : (x y : ℕ) (xs ys : List ℕ) → x ∷ xs ≡ y ∷ ys → xs ≡ ys
-same_rest x y xs ys e = cc
-
 noted : (note gap : List ℕ) (lines : List (List ℕ)) (last : List ℕ) → list_any is_newline note ≡ false → 10 ∷ gap ≡ in_lines lines ++ last → list_all is_between lines ≡ true → list_all is_blank last ≡ true
     → IsGap (10 ∷ 99 ∷ (note ++ 10 ∷ gap))
 noted note gap [] [] free is lines_are last_blank = absurd cc
 noted note gap [] (x ∷ last) free is lines_are last_blank =
-    let same : gap ≡ last = same_rest 10 x gap last is in
+    let same : gap ≡ last = same_tail 10 x gap last is in
     record {
       lines = [] ∷ (99 ∷ note) ∷ [];
       last = last;
@@ -59,7 +57,7 @@ noted note gap [] (x ∷ last) free is lines_are last_blank =
       last_blank = (and_true (is_blank x) (list_all is_blank last) last_blank).1;
     }
 noted note gap ([] ∷ lines) last free is lines_are last_blank =
-    let same : gap ≡ in_lines lines ++ last = same_rest 10 10 gap (in_lines lines ++ last) is in
+    let same : gap ≡ in_lines lines ++ last = same_tail 10 10 gap (in_lines lines ++ last) is in
     record {
       lines = [] ∷ (99 ∷ note) ∷ lines;
       last = last;
@@ -70,7 +68,7 @@ noted note gap ([] ∷ lines) last free is lines_are last_blank =
     }
 noted note gap ((x ∷ line) ∷ lines) last free is lines_are last_blank =
     let both = and_true (is_between (x ∷ line)) (list_all is_between lines) lines_are in
-    let same : gap ≡ (line ++ 10 ∷ in_lines lines) ++ last = same_rest 10 x gap ((line ++ 10 ∷ in_lines lines) ++ last) is in
+    let same : gap ≡ (line ++ 10 ∷ in_lines lines) ++ last = same_tail 10 x gap ((line ++ 10 ∷ in_lines lines) ++ last) is in
     let begins : begins_blank ((x ∷ line) ++ (10 ∷ in_lines lines ++ last)) ≡ true = ap begins_blank (sym (is ∙ append_assoc (x ∷ line) (10 ∷ in_lines lines) last)) in
     let line_blank = first_blank (x ∷ line) (10 ∷ in_lines lines ++ last) both.0 begins in
     let shorter : is_between line ≡ true = or_true (is_comment_line line) (list_all is_blank line) (and_true (is_blank x) (list_all is_blank line) line_blank).1 in
@@ -222,7 +220,7 @@ note_shape vars note bytes clauses free shape = elim shape [
       let some = lead_of vars [] 10 bytes clauses refl g in
       let words = concat g.spaced ++ (g.ending ++ g.rest) in
       let gap : IsGap (10 ∷ some.0) = subst IsGap some.1 (lead_gap 10 g.lead some.0 some.1 g.lead_is) in
-      let shorter : bytes ≡ some.0 ++ words = same_rest 10 10 bytes (some.0 ++ words) (g.bytes_are ∙ ap (λ (l : List ℕ). l ++ words) some.1) in
+      let shorter : bytes ≡ some.0 ++ words = same_tail 10 10 bytes (some.0 ++ words) (g.bytes_are ∙ ap (λ (l : List ℕ). l ++ words) some.1) in
       inr (record {
         lead = 10 ∷ 99 ∷ (note ++ 10 ∷ some.0);
         spaced = g.spaced;

@@ -1,18 +1,15 @@
 -- What a word, a line and a text say, piece by piece.
-use Rattle.std.proofs.Common.{◌≡◌, ◌∙◌, ◌<◌, ◌≤◌, ◌+◌, ◌-◌, ℕ, Bool, true, false, zero, suc, refl, sym, ap, ap₂, subst, arith, take, drop, List, [], ◌∷◌, ◌++◌, length, get_or, inl, inr, zero-add, Option, Some, None, Result, Ok, Err}
-use Rattle.std.specs.Prelude.{◌==◌, ◌&&◌, not, nat_lt, slice_index, codes, option_map, ◌≢◌, IfErr, MatchOption}
-use Rattle.std.specs.List.{filter}
-use Rattle.std.proofs.lemmas.Bool.{ltb-true, lt-ltb, eqb-true, eq-eqb}
+use Rattle.std.proofs.Common.{◌≡◌, ◌∙◌, ◌<◌, ◌≤◌, ◌+◌, ◌-◌, ℕ, Bool, true, false, zero, suc, refl, sym, ap, arith, take, drop, List, [], ◌∷◌, ◌++◌, length, get_or, inl, inr, zero-add, Some, None, Ok, Err}
+use Rattle.std.specs.Prelude.{◌==◌, nat_lt}
+use Rattle.std.proofs.lemmas.Bool.{lt-ltb, eq-eqb}
 use Rattle.std.proofs.lemmas.Bool.Decides.{leb_tells, eqb_tells}
-use Rattle.dimacs_text.specs.Parts.{Part, front, parts, words, lines, has_bytes, is_empty, is_blank, is_newline}
+use Rattle.dimacs_text.specs.Parts.{Part, front, words, lines, is_blank, is_newline}
 use Rattle.dimacs_text.specs.Number.{signed_of, literal_of, whole_of}
 use Rattle.dimacs_text.specs.Reading.{Said, after_word, after_number, after_words, after_line, after_lines, unless_fault, once, fault, is_comment, without_comments, after_head, at_end, nothing_said, from_head, with_head, head_of, reading}
 use Rattle.dimacs_text.specs.declared.number.Signed.{Signed}
 use Rattle.dimacs_text.specs.declared.head.Head.{Head}
 use Rattle.dimacs_text.specs.declared.fault.TextFault.{TextFault}
-use Rattle.dimacs_text.specs.declared.fault.TextWhy.{TextWhy}
 use Rattle.dimacs_text.specs.declared.fault.TextWhy.TheVariants as why
-use Rattle.rsfq_ids.specs.declared.circuit.Cnf.{Cnf}
 use Rattle.dimacs_text.proofs.PartLemmas.{parts_at, drop_out, split_at}
 use Rattle.dimacs_text.proofs.WordLemmas.{one_word, no_word}
 
@@ -104,18 +101,14 @@ head_fault len head rest f err = ap (unless_fault (at_end len head)) err
 
 -- ---- comments before the head
 
-first_byte : (bs : List ℕ) → 0 < length bs → is_comment bs ≡ (get_or bs 0 0 == 99)
-first_byte [] lt = absurd (omega arith)
-first_byte (b ∷ bs) lt = refl
-
 begun : (n at : ℕ) (text : List ℕ) → 0 < n → at < length text → is_comment (take n (drop at text)) ≡ (get_or text at 0 == 99)
 begun zero at text some lt = absurd (omega arith)
 begun (suc n) at text some lt = ap (λ (bs : List ℕ). is_comment (take (suc n) bs)) (split_at text at lt)
 
-passed : (line : Part) (rest : List Part) → is_comment line.bytes ≡ true → without_comments (line ∷ rest) ≡ without_comments rest
+pub passed : (line : Part) (rest : List Part) → is_comment line.bytes ≡ true → without_comments (line ∷ rest) ≡ without_comments rest
 passed line rest is = rw is refl
 
-stands : (line : Part) (rest : List Part) → is_comment line.bytes ≡ false → without_comments (line ∷ rest) ≡ line ∷ rest
+pub stands : (line : Part) (rest : List Part) → is_comment line.bytes ≡ false → without_comments (line ∷ rest) ≡ line ∷ rest
 stands line rest is = rw is refl
 
 -- a line that begins with a byte that ends no line is not empty

@@ -180,7 +180,7 @@ fn once_by_scan(alloc: Global, lits: &[Lit]) -> Result<List<Lit>, NoMemory>
 fn has_literal(clause: &[Lit], lit: Lit) -> bool
     ensures { result ≡ list_any (λ other. lit == other) clause.now }
 {
-    clause.iter().any(|other| lit.index() == other.index())
+    clause.contains(&lit)
 }
 
 /// Each literal once, where those before it stand in an ordered set.

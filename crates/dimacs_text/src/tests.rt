@@ -35,7 +35,7 @@ fn texts_are_exact(rt: HostRuntime) -> Result<(), Fail> {
 
 #[test]
 fn texts_are_read(rt: HostRuntime) -> Result<(), Fail> {
-    let texts: [(&[u8], &[u8]); 7] = [
+    let texts: [(&[u8], &[u8]); 8] = [
         (
             b"p cnf 4 8\n1 -2 0\n-1 2 0\n-3 0\n-4 2 1 0\n-4 -2 -1 0\n4 -2 1 0\n4 2 -1 0\n4 0\n",
             b"p cnf 4 8\n1 -2 0\n-1 2 0\n-3 0\n-4 2 1 0\n-4 -2 -1 0\n4 -2 1 0\n4 2 -1 0\n4 0\n",
@@ -52,6 +52,10 @@ fn texts_are_read(rt: HostRuntime) -> Result<(), Fail> {
             b"p cnf 2147483647 1\n-2147483647 0\n",
         ),
         (b"p cnf 1 2\n0 0\n\n\n", b"p cnf 1 2\n0\n0\n"),
+        (
+            b"p cnf 17 1\n1 2 3 4 5 6 7 8 9 10 11 12 13 14 15 16 17 1 -17 17 0\n",
+            b"p cnf 17 1\n1 2 3 4 5 6 7 8 9 10 11 12 13 14 15 16 17 -17 0\n",
+        ),
     ];
     for (text, again) in texts {
         assert!(rt; text.len() < 1000);
