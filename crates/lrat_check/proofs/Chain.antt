@@ -1,10 +1,10 @@
 -- Commands that are made by a chain of `arg` calls, and the values that their parses give.
-use Rattle.std.proofs.Common.{ap₂, ◌≡◌, ◌∙◌, ◌<◌, ◌&&◌, ◌||◌, ℕ, Bool, true, false, not, zero, suc, refl, sym, ap, arith, List, [], ◌∷◌, map, length, inl, inr, true≢false, codes}
+use Rattle.std.proofs.Common.{◌≡◌, ◌<◌, ◌&&◌, ◌||◌, ℕ, Bool, true, false, not, zero, suc, refl, sym, ap, arith, List, [], ◌∷◌, map, length, inl, inr, true≢false, codes}
 use Rattle.std.specs.List.{All, list_any, list_all, slice_index_or}
 use Rattle.std.specs.Str.{bytes_eq}
 use Rattle.std.proofs.lemmas.List.Elements.{All-cons, All-nil}
 use Rattle.std.proofs.lemmas.Slice.Eq.{bytes_eq-Decides}
-use Rattle.clap.specs.Words.{AddsInTurn, AddsArg, App, Rule, Text, app_of, args_of, rule_of, with_rule, groups_of}
+use Rattle.clap.specs.Words.{AddsInTurn, AddsArg, Text, args_of, groups_of}
 use Rattle.clap.specs.Built.{FitsChain, HasDistinctIds, IsAuto, TakesValue}
 use Rattle.clap.specs.Walk.{is_empty}
 use Rattle.clap.specs.declared.builder.arg.Arg.{Arg}
@@ -89,8 +89,3 @@ pub chain_gives : (start cmd : Command) (xs : List Arg) → AddsInTurn AddsArg s
     → (k : ℕ) (d : Arg) → k < length xs → TakesValue (slice_index_or xs k d) → GivesValue cmd (slice_index_or xs k d).id.now
 chain_gives start cmd xs chain empty plain all own distinct k d lt value m parsed =
     required_in_chain start cmd xs k d m chain empty.0 empty.1 plain.0 plain.1 (fits xs all own) (distinct_ids xs distinct) lt value parsed
-
--- the command after one more argument
-pub app_added : (old new : Command) (a : Arg) (app : App) (rule : Rule) → AddsArg old a new → Joins a → app_of old ≡ app → rule_of a ≡ rule
-    → app_of new ≡ with_rule app rule
-app_added old new a app rule added joins one two = added.shape joins.1 ∙ ap₂ with_rule one two

@@ -1,8 +1,7 @@
 //! The check of a proof.
-ghost use Rattle.std.specs.Prelude.{◌≡◌, ◌≢◌, ◌≤◌, ◌<◌, ◌+◌, ◌^◌, ◌++◌, ◌∷◌, [], None, Some, Ok, Err, true, false, min, length, drop, IfErr, OnOk, IfOk};
-ghost use Rattle.std.specs.List.{All, concat};
+ghost use Rattle.std.specs.Prelude.{◌≡◌, ◌≢◌, ◌≤◌, ◌<◌, ◌+◌, None, Some, Ok, Err, false, min, length, IfErr, OnOk, IfOk};
+ghost use Rattle.std.specs.List.{concat};
 ghost use Rattle.rsfq_ids.specs.Formula.{IsFormula, HasSolution};
-ghost use Rattle.proof_arena.specs.Step.{is_among, is_tautology};
 ghost use Rattle.proof_arena.specs.Table.{falses_of};
 ghost use Rattle.dimacs_text.specs.Parts.{lines};
 ghost use Rattle.lrat_check.specs.Forms.{form_of};
@@ -10,7 +9,7 @@ ghost use Rattle.lrat_check.specs.Lines.{line_of};
 ghost use Rattle.lrat_check.specs.Entries.{found_of};
 ghost use Rattle.lrat_check.specs.Tables.{known_of, HasNearTable};
 ghost use Rattle.lrat_check.specs.Reached.{vars_up_to};
-ghost use Rattle.lrat_check.specs.Check.{after_line, addition_fault, added, clause_of, deleted, hints_fault, range_fault, lines_fault, text_fault, unless_why, keeps, at_end, known_at_first};
+ghost use Rattle.lrat_check.specs.Check.{after_line, addition_fault, added, clause_of, deleted, hints_fault, range_fault, text_fault, unless_why, keeps, at_end, known_at_first};
 
 use crate::fault::{LratFault, LratWhy};
 use crate::line::{Form, Numbers};

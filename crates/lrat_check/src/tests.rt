@@ -8,6 +8,7 @@ use proof_arena::{Marks, ProofLog, step_holds};
 use rsfq_ids::id::{ClauseId, Id, Lit};
 use rsfq_outside::{MemoryFolder, MemorySink, Status};
 use std::alloc::{AllocError, Global};
+use std::process::Abort;
 use std::test::Fail;
 
 const CHAIN: &[u8] = b"p cnf 2 3\n1 0\n-1 2 0\n-2 0\n";
@@ -58,6 +59,29 @@ fn proofs_are_verified(rt: HostRuntime) -> Result<(), Fail> {
             panic!(rt; "refused formula");
         };
         assert!(rt; check_text(rt.alloc(), &cnf, proof, &arena).is_ok());
+    }
+    Ok(())
+}
+
+/// Each row: a proof of the chain's formula, the line that fails, and the cause.
+fn refuse_each(
+    rt: &impl Abort,
+    alloc: Global,
+    faults: &[(&[u8], u32, LratWhy)],
+) -> Result<(), Fail> {
+    let Ok(cnf) = read_dimacs(alloc, CHAIN) else {
+        panic!(rt; "refused formula");
+    };
+    for (proof, line, why) in faults {
+        assert!(rt; proof.len() < 1000);
+        let arena = Bump::new(alloc);
+        match check_text(alloc, &cnf, proof, &arena) {
+            Ok(()) => panic!(rt; "verified"),
+            Err(fault) => {
+                assert_eq!(rt; fault.line, *line);
+                assert_eq!(rt; fault.why, *why);
+            }
+        }
     }
     Ok(())
 }
@@ -114,21 +138,7 @@ fn faults_are_the_first(rt: HostRuntime) -> Result<(), Fail> {
         (b"d 1 0\n", 1, LratWhy::Syntax),
         (b"4 d 1 7 0\n", 1, LratWhy::NoClause(7)),
     ];
-    let Ok(cnf) = read_dimacs(rt.alloc(), CHAIN) else {
-        panic!(rt; "refused formula");
-    };
-    for (proof, line, why) in faults {
-        assert!(rt; proof.len() < 1000);
-        let arena = Bump::new(rt.alloc());
-        match check_text(rt.alloc(), &cnf, proof, &arena) {
-            Ok(()) => panic!(rt; "verified"),
-            Err(fault) => {
-                assert_eq!(rt; fault.line, line);
-                assert_eq!(rt; fault.why, why);
-            }
-        }
-    }
-    Ok(())
+    refuse_each(&rt, rt.alloc(), &faults)
 }
 
 // Each row: a proof of the chain's formula whose failing line has two causes or more, and the one that counts.
@@ -159,21 +169,7 @@ fn the_first_cause_of_a_line(rt: HostRuntime) -> Result<(), Fail> {
         (b"4 0 1 0\n3 0 1 0\n", 1, LratWhy::NoConflict),
         (b"1 d 3 0\n4 0 1 2 3 0\n", 2, LratWhy::NoClause(3)),
     ];
-    let Ok(cnf) = read_dimacs(rt.alloc(), CHAIN) else {
-        panic!(rt; "refused formula");
-    };
-    for (proof, line, why) in faults {
-        assert!(rt; proof.len() < 1000);
-        let arena = Bump::new(rt.alloc());
-        match check_text(rt.alloc(), &cnf, proof, &arena) {
-            Ok(()) => panic!(rt; "verified"),
-            Err(fault) => {
-                assert_eq!(rt; fault.line, line);
-                assert_eq!(rt; fault.why, why);
-            }
-        }
-    }
-    Ok(())
+    refuse_each(&rt, rt.alloc(), &faults)
 }
 
 // Each row: a proof of the chain's formula whose failing line hints at its own id, deletes a clause twice, or has fields that are no numbers.
@@ -187,21 +183,28 @@ fn faults_of_ids_and_fields(rt: HostRuntime) -> Result<(), Fail> {
         (b"4 - 0 1 0\n", 1, LratWhy::Syntax),
         (b"4 0 d 0\n", 1, LratWhy::Syntax),
     ];
+    refuse_each(&rt, rt.alloc(), &faults)
+}
+
+// Ids that leave gaps, so that a clause is not at the place that its id names.
+#[test]
+fn ids_with_gaps(rt: HostRuntime) -> Result<(), Fail> {
     let Ok(cnf) = read_dimacs(rt.alloc(), CHAIN) else {
         panic!(rt; "refused formula");
     };
-    for (proof, line, why) in faults {
-        assert!(rt; proof.len() < 1000);
-        let arena = Bump::new(rt.alloc());
-        match check_text(rt.alloc(), &cnf, proof, &arena) {
-            Ok(()) => panic!(rt; "verified"),
-            Err(fault) => {
-                assert_eq!(rt; fault.line, line);
-                assert_eq!(rt; fault.why, why);
-            }
-        }
-    }
-    Ok(())
+    let arena = Bump::new(rt.alloc());
+    let proof = b"10 2 0 1 2 0\n20 0 10 3 0".as_slice();
+    assert!(rt; proof.len() < 1000);
+    assert!(rt; check_text(rt.alloc(), &cnf, proof, &arena).is_ok());
+    let faults: [(&[u8], u32, LratWhy); 2] = [
+        (b"10 2 0 1 2 0\n20 0 4 3 0", 2, LratWhy::NoClause(4)),
+        (
+            b"10 2 0 1 2 0\n11 d 10 0\n20 0 10 3 0",
+            3,
+            LratWhy::NoClause(10),
+        ),
+    ];
+    refuse_each(&rt, rt.alloc(), &faults)
 }
 
 fn words_of(alloc: Global, words: &[&str]) -> Result<Vec<String>, AllocError> {
