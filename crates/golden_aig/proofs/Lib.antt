@@ -2,4 +2,5 @@ pub mod Values
 pub mod Tables
 pub mod PortLists
 pub mod Texts
+pub mod NoMatch
 pub mod Samples

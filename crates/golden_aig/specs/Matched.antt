@@ -87,3 +87,7 @@ HasNoMatch aig flat bench why =
 -- want of memory, which has no cause, or that
 abbrev pub IsRefusal : PortFault → Type 0 → Type 0
 IsRefusal why Cause = (why ≡ fault.Memory) ⊎ Cause
+
+-- want of memory, or no pairing is a match
+abbrev pub MatchesNone : Aig → Flat → Bench → PortFault → Type 0
+MatchesNone aig flat bench why = IsRefusal why ((matched : Match) → ¬ IsMatch aig flat bench matched)

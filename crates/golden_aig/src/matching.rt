@@ -1,11 +1,11 @@
 //! Which ports the inputs and outputs of a graph stand for: by name where all of a side have symbols, else in port order.
 
-ghost use Rattle.std.specs.Prelude.{◌≡◌, ◌≢◌, ℕ, ◌+◌, ◌-◌, ◌<◌, ◌≤◌, ◌^◌, [], map, length, IfOk, IfErr, OnOk};
+ghost use Rattle.std.specs.Prelude.{◌≡◌, ◌<◌, map, length, IfOk, IfErr, OnOk};
 ghost use Rattle.std.specs.List.{All, Contains};
 ghost use Rattle.rsfq_ids.specs.WellFormed.{AreDistinct, IsBench};
 ghost use Rattle.golden_aig.specs.Aig.{IsAig};
 ghost use Rattle.golden_aig.specs.FirstPlaces.{HoldsPlaces};
-ghost use Rattle.golden_aig.specs.Matched.{data_inputs, outputs_of, name_of, names_of, symbols_of, IsMatched, IsMatch, LacksPort, Repeats, Refuses, HasNoMatch, IsRefusal};
+ghost use Rattle.golden_aig.specs.Matched.{data_inputs, outputs_of, name_of, names_of, symbols_of, IsMatched, IsMatch, LacksPort, Repeats, Refuses, HasNoMatch, IsRefusal, MatchesNone};
 ghost use Rattle.golden_aig.specs.declared.pairing.PortFault.TheVariants as fault;
 
 use crate::graph::Aig;
@@ -154,13 +154,14 @@ fn match_side(
 /// # Errors
 ///
 /// For the inputs and then for the outputs, the first in this order: `Mixed`, `Count`, `NoPort` of the first symbol without
-/// a port, `Repeated` of the first symbol that stood before. `Memory` may come at any time.
+/// a port, `Repeated` of the first symbol that stood before; and then no pairing is a match. `Memory` may come at any time.
 pub fn match_ports(alloc: Global, aig: &Aig, flat: &Flat, bench: &Bench) -> Result<Match, PortFault>
     requires graph { IsAig aig.now }
     requires names { AreDistinct (map (λ port. port.name) flat.now.ports) }
     requires bench { IsBench flat.now bench.now }
     ensures matched { IfOk result (λ matched. IsMatch aig.now flat.now bench.now matched) }
     ensures refused { IfErr result (λ why. IsRefusal why (HasNoMatch aig.now flat.now bench.now why)) }
+    ensures none { IfErr result (MatchesNone aig.now flat.now bench.now) }
 {
     let inputs = match_side(
         alloc,

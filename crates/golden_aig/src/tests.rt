@@ -2,7 +2,6 @@
 
 ghost use Rattle.std.specs.Prelude.{◌≡◌, ◌<◌, ◌∷◌, [], length, replicate, codes, false, true, pos, IfOk};
 ghost use Rattle.rsfq_ids.specs.declared.circuit.PortUse.TheVariants as used;
-ghost use Rattle.rsfq_ids.specs.WellFormed.{AreDistinct, IsBench};
 ghost use Rattle.golden_aig.specs.Aig.{IsAig};
 
 use crate::evaluation::eval;
@@ -143,7 +142,7 @@ fn describe(alloc: Global, in_names: &[&str], out_names: &[&str]) -> Result<Stri
 
 #[test]
 fn sides_are_matched(rt: HostRuntime) -> Result<(), Fail> {
-    let cases: [(&[&str], &[&str], &str); 14] = [
+    let cases: [(&[&str], &[&str], &str); 15] = [
         (
             &["", ""],
             &["", ""],
@@ -172,6 +171,7 @@ fn sides_are_matched(rt: HostRuntime) -> Result<(), Fail> {
         (&["y", "a"], &["", ""], "NoPort(Name { text: \"y\" })"),
         (&["a", "a"], &["", ""], "Repeated(Name { text: \"a\" })"),
         (&["b", "b"], &["z", "q"], "Repeated(Name { text: \"b\" })"),
+        (&["q", "q"], &["", ""], "NoPort(Name { text: \"q\" })"),
         (&["a", "b"], &["z", ""], "Mixed"),
         (&["a", "b"], &["y", "y"], "Repeated(Name { text: \"y\" })"),
     ];
