@@ -1,5 +1,5 @@
 -- The order in which lines become ready gives one graph.
-use Rattle.std.proofs.Common.{◌≡◌, ◌⊎◌, ◌∙◌, inl, inr, ◌<◌, ◌≤◌, ◌+◌, ◌*◌, ◌/◌, ◌%◌, ℕ, zero, suc, refl, ap, sym, subst, arith, List, [], ◌∷◌, length, Option, None, Some}
+use Rattle.std.proofs.Common.{◌≡◌, ◌⊎◌, ◌∙◌, inl, inr, ◌<◌, ◌≤◌, ◌+◌, ◌*◌, ◌/◌, ◌%◌, ℕ, zero, suc, refl, ap, sym, subst, arith, List, [], ◌∷◌, length, Option, Some}
 use Rattle.std.specs.Prelude.{slice_get, slice_index_or, map, take}
 use Rattle.std.specs.List.{All}
 use Rattle.std.proofs.lemmas.Option.{same_Some, slice_get_within, get_or_from_slice_get}
@@ -28,11 +28,6 @@ take_inside (y ∷ xs) zero i x e = absurd cc
 take_inside (y ∷ xs) (suc n) zero x e = omega arith
 take_inside (y ∷ xs) (suc n) (suc i) x e = (let lt = take_inside xs n i x e in omega arith)
 
-past : {A : Type 0} (xs : List A) (i : ℕ) → length xs ≤ i → slice_get xs i ≡ None
-past [] i le = refl
-past (x ∷ xs) zero le = absurd (omega arith)
-past (x ∷ xs) (suc i) le = past xs i (omega arith)
-
 same_lists : {A : Type 0} (xs ys : List A) → length xs ≡ length ys → ((i : ℕ) (x y : A) → slice_get xs i ≡ Some x → slice_get ys i ≡ Some y → x ≡ y) → xs ≡ ys
 same_lists [] [] e h = refl
 same_lists [] (y ∷ ys) e h = absurd (omega arith)
@@ -43,13 +38,6 @@ same_lists {A} (x ∷ xs) (y ∷ ys) e h =
     ap (λ (z : A). z ∷ xs) first ∙ ap (λ (zs : List A). y ∷ zs) rest
 
 -- ---- literals and names
-
-read_literal : (names : List ℕ) (number name r : ℕ) → slice_get names number ≡ Some name → r < 2 → file_literal names (2 * number + r) ≡ 2 * name + r
-read_literal names number name r is lt =
-    let half : (2 * number + r) / 2 ≡ number = omega arith in
-    let odd : (2 * number + r) % 2 ≡ r = omega arith in
-    let there : slice_index_or names number 0 ≡ name = get_or_from_slice_get names number name 0 is in
-    rw (half, odd, there) refl
 
 even_literal : (names : List ℕ) (number name : ℕ) → slice_get names number ≡ Some name → file_literal names (2 * number) ≡ 2 * name
 even_literal names number name is =

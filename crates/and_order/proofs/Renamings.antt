@@ -23,9 +23,6 @@ use Rattle.and_order.proofs.Lists.{get_more, get_behind, get_parts, get_inside, 
 use Rattle.and_order.proofs.ReadyLines.{one_line}
 use Rattle.and_order.proofs.SortedLines.{sorted_count}
 
-lhs_of : And → ℕ
-lhs_of one = one.lhs
-
 -- the literal of a line is defined behind the inputs
 line_defined : (listing : Listing) (line : ℕ) (one : And) → slice_get listing.ands line ≡ Some one → slice_get (defined_by listing.inputs listing.ands) (length listing.inputs + line) ≡ Some one.lhs
 line_defined listing line one is =
@@ -107,9 +104,6 @@ all_known listing names ands x ok s done d = elim (fed listing names ands x ok s
       let half : line.1.lhs / 2 ≡ x / 2 = omega arith in
       subst (Known names) half (done line.0 line.1 line.2)
 ]
-
-pub outputs_below : (listing : Listing) (at x : ℕ) → IsListing listing → slice_get listing.outputs at ≡ Some x → x / 2 ≤ listing.top
-outputs_below listing at x ok is = defined_below listing x ok (ok.outputs at x is)
 
 -- ---- no graph has ANDs in a ring
 

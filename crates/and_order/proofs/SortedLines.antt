@@ -17,9 +17,6 @@ use Rattle.and_order.proofs.ReadyLines.{one_line}
 pub same_literal : (names more : List ℕ) (l : ℕ) → l / 2 < length names → file_literal (names ++ more) l ≡ file_literal names l
 same_literal names more l lt = ap (λ (n : ℕ). 2 * n + l % 2) (get_or-append names more 0 (l / 2) lt)
 
-three : ℕ → ℕ → ℕ → And
-three a b c = record { lhs = a; rhs0 = b; rhs1 = c }
-
 pub same_and : (names more : List ℕ) (one : And) → one.lhs / 2 < length names → one.rhs0 < one.lhs → one.rhs1 < one.lhs → file_and (names ++ more) one ≡ file_and names one
 same_and names more one lt lt0 lt1 =
     rw (same_literal names more one.lhs lt, same_literal names more one.rhs0 (omega arith), same_literal names more one.rhs1 (omega arith)) refl

@@ -63,14 +63,6 @@ uses_back lists v line w p lt u = go (w == v) refl where
       ]
   go false e = inl (u.0, subst (λ (l : List ℕ). slice_get l u.0 ≡ Some p) (other_list lists v w line (eqb-false w v e)) u.1)
 
-pub no_users : (top : ℕ) (lines : List And) (lists : List (List ℕ)) → length lists ≡ top + 1 → ((v p : ℕ) → ¬ UsedBy lists v p) → AreUsers top 0 lines lists
-no_users top lines lists size none = record {
-  size = size;
-  inside = λ v p u. absurd (none v p u);
-  first = λ line one lt is. absurd (omega arith);
-  second = λ line one lt is. absurd (omega arith);
-}
-
 pub users_more : (top n : ℕ) (lines : List And) (lists : List (List ℕ)) (one : And) → AreUsers top n lines lists → slice_get lines n ≡ Some one → one.rhs0 / 2 ≤ top → one.rhs1 / 2 ≤ top
     → AreUsers top (n + 1) lines (added (added lists (one.rhs0 / 2) n) (one.rhs1 / 2) n)
 users_more top n lines lists one u is le0 le1 =

@@ -1,7 +1,7 @@
 //! The new numbers of the file's variables.
 
 ghost use Rattle.std.specs.Prelude.{◌≡◌, ◌<◌, ◌≤◌, ◌/◌, ◌++◌, [], ◌∷◌, length, true, false, IfOk, OnOk};
-ghost use Rattle.and_order.specs.Numbers.{Known, IsNumbering, Numbers, file_literal};
+ghost use Rattle.and_order.specs.Numbers.{Known, Numbers, file_literal};
 
 use rsfq_ids::list::NoMemory;
 use std::alloc::Global;

@@ -1,6 +1,6 @@
 //! The lines that can be numbered next.
 
-ghost use Rattle.std.specs.Prelude.{◌≡◌, ◌<◌, ◌≤◌, ◌^◌, true, false, ℕ, length, slice_get, Some, IfOk, OnOk};
+ghost use Rattle.std.specs.Prelude.{◌≡◌, ◌<◌, ◌^◌, true, false, ℕ, length, slice_get, Some, IfOk, OnOk};
 ghost use Rattle.and_order.specs.Numbers.{Numbers};
 ghost use Rattle.and_order.specs.Ready.{AreBelow, IsReady, Has, OnlyReady};
 

@@ -1,7 +1,6 @@
 //! ANDs in a ring.
 
-ghost use Rattle.std.specs.Prelude.{◌≡◌, ◌<◌, ◌≤◌, ◌/◌, ◌^◌, ◌⊎◌, ◌++◌, ◌∷◌, [], ℕ, true, false, length, drop, slice_get, slice_index, Some, IfOk, IfSome, IfNone, OnOk};
-ghost use Rattle.std.specs.List.{All};
+ghost use Rattle.std.specs.Prelude.{◌≡◌, ◌<◌, ◌≤◌, ◌/◌, ◌++◌, ◌∷◌, [], ℕ, length, slice_get, slice_index, Some, IfOk, IfSome, IfNone};
 ghost use Rattle.golden_aig.specs.declared.graph.And.{And};
 ghost use Rattle.and_order.specs.Numbers.{Known, HoldsOnce, Numbers};
 ghost use Rattle.and_order.specs.Listing.{AreLines};

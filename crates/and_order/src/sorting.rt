@@ -1,11 +1,11 @@
 //! The ANDs in an order of use.
 
-ghost use Rattle.std.specs.Prelude.{◌≡◌, ◌<◌, ◌≤◌, ◌≢◌, ◌/◌, ◌*◌, ◌+◌, ◌++◌, ◌^◌, ◌⊎◌, ◌∷◌, [], ℕ, length, map, slice_get, Some, IfOk, OnOk};
+ghost use Rattle.std.specs.Prelude.{◌≡◌, ◌<◌, ◌≤◌, ◌≢◌, ◌/◌, ◌+◌, ◌++◌, ◌^◌, ◌⊎◌, ◌∷◌, [], ℕ, length, map, slice_get, Some, IfOk, OnOk};
 ghost use Rattle.golden_aig.specs.declared.graph.And.{And};
-ghost use Rattle.and_order.specs.Numbers.{Known, HoldsOnce, Numbers, file_and};
+ghost use Rattle.and_order.specs.Numbers.{Known, HoldsOnce, Numbers};
 ghost use Rattle.and_order.specs.Users.{lists_of, AreUsers};
 ghost use Rattle.and_order.specs.Listing.{IsDefinition, AreLines, defined_by};
-ghost use Rattle.and_order.specs.Ready.{AreBelow, IsReady, Has, OnlyReady};
+ghost use Rattle.and_order.specs.Ready.{IsReady, Has, OnlyReady};
 ghost use Rattle.and_order.specs.Sorted.{IsBuilt, IsSorted};
 
 use crate::numbering::Numbering;
