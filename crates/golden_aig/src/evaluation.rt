@@ -1,6 +1,6 @@
 //! The values of a graph under a word, by a table that is filled from low variables to high.
 
-ghost use Rattle.std.specs.Prelude.{◌≡◌, ℕ, ◌+◌, ◌<◌, ◌≤◌, ◌/◌, length, map, Some};
+ghost use Rattle.std.specs.Prelude.{◌≡◌, ◌≤◌, ◌/◌, length, map, Some};
 ghost use Rattle.golden_aig.specs.Aig.{IsAig, variables_of};
 ghost use Rattle.golden_aig.specs.Golden.{golden, literal_value, and_value};
 ghost use Rattle.golden_aig.specs.Table.{marked, Holds};
