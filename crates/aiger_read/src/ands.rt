@@ -1,6 +1,6 @@
 //! The ANDs of the binary form: two differences of literals each, in groups of seven bits, low group first.
 
-ghost use Rattle.std.specs.Prelude.{◌≡◌, ◌≤◌, ◌<◌, ◌+◌, ◌*◌};
+ghost use Rattle.std.specs.Prelude.{◌≡◌, ◌≤◌, ◌+◌, ◌*◌};
 ghost use Rattle.std.specs.Option.{option_map};
 ghost use Rattle.aiger_read.specs.Reading.{Gives, groups_at, is_cut, difference_at, and_at, many_at};
 

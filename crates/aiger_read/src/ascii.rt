@@ -1,6 +1,6 @@
 //! A whole ASCII file.
 
-ghost use Rattle.std.specs.Prelude.{◌≡◌, ◌<◌, ◌^◌, length, IfOk, IfErr};
+ghost use Rattle.std.specs.Prelude.{◌<◌, ◌^◌, length, IfOk, IfErr};
 ghost use Rattle.golden_aig.specs.Aig.{IsAig};
 ghost use Rattle.and_order.specs.Listing.{IsListing};
 ghost use Rattle.and_order.specs.Renaming.{IsRenaming, IsOrdered};

@@ -1,6 +1,6 @@
 //! A whole binary file.
 
-ghost use Rattle.std.specs.Prelude.{◌≡◌, ◌<◌, ◌^◌, length, IfOk, IfErr};
+ghost use Rattle.std.specs.Prelude.{◌<◌, ◌^◌, length, IfOk, IfErr};
 ghost use Rattle.golden_aig.specs.Aig.{IsAig};
 ghost use Rattle.aiger_read.specs.Reading.{Gives};
 ghost use Rattle.aiger_read.specs.Graph.{graph_at, ReadsAs, IsRefusal};

@@ -1,6 +1,6 @@
 //! The literals that a file defines, by its inputs and its ANDs.
 
-ghost use Rattle.std.specs.Prelude.{◌≡◌, ◌<◌, ◌≤◌, ◌/◌, ◌%◌, ◌+◌, ◌++◌, ◌∷◌, [], Bool, false, length, replicate, IfOk, OnOk};
+ghost use Rattle.std.specs.Prelude.{◌≡◌, ◌<◌, ◌≤◌, ◌/◌, ◌%◌, ◌+◌, ◌++◌, ◌∷◌, [], IfOk, OnOk};
 ghost use Rattle.aiger_read.specs.Reading.{Gives};
 ghost use Rattle.aiger_read.specs.Lines.{AreMarks, definition_at};
 

@@ -20,7 +20,7 @@ pub enum AigerWhy {
     /// The file has more than inputs, outputs and ANDs.
     #[error("extended")]
     Extended,
-    /// A number is wanted: digits, or groups of seven bits, of a value below 2^32.
+    /// A number is wanted, in digits or in groups of seven bits, of a value below 2^32; or behind one a space or a line's end.
     #[error("number")]
     Number,
     /// A literal above `2M + 1`, or one that is to be defined and is odd or below 2.
@@ -38,10 +38,10 @@ pub enum AigerWhy {
     /// A difference of an AND's literals that leads below 0, or a first one of 0.
     #[error("order")]
     Order,
-    /// The file ends before a needed line or difference.
+    /// The file ends before a needed line or difference, or inside a difference.
     #[error("truncated")]
     Truncated,
-    /// A line behind the ANDs that is no symbol.
+    /// A line behind the ANDs that is neither `c` nor a symbol, or a symbol of an input or output that is not there, or a second one.
     #[error("symbol")]
     Symbol,
     /// The number of variables, which is above 1,000,000.

@@ -1,6 +1,6 @@
 //! Files of both forms.
 
-ghost use Rattle.std.specs.Prelude.{◌≡◌, ◌<◌, ◌^◌, length, IfOk, IfErr};
+ghost use Rattle.std.specs.Prelude.{◌<◌, ◌^◌, length, IfOk, IfErr};
 ghost use Rattle.golden_aig.specs.Aig.{IsAig};
 ghost use Rattle.aiger_read.specs.Both.{IsFault, SpellsNone};
 ghost use Rattle.aiger_read.specs.Spelled.{SpelledInOrder};

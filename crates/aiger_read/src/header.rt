@@ -1,6 +1,6 @@
 //! The first line of a file: `aag M I L O A` or `aig M I L O A`, and at most four further numbers.
 
-ghost use Rattle.std.specs.Prelude.{◌≡◌, ◌≤◌, ◌+◌, length, IfOk};
+ghost use Rattle.std.specs.Prelude.{◌≡◌, ◌≤◌, ◌+◌, IfOk};
 ghost use Rattle.aiger_read.specs.Reading.{Gives};
 ghost use Rattle.aiger_read.specs.Header.{spaces_in, has_head, fits_form, zeros_at, variables_at, latches_at, counts_at, header_at};
 

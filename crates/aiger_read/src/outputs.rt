@@ -1,6 +1,5 @@
 //! The lines of output literals.
 
-ghost use Rattle.std.specs.Prelude.{◌≡◌};
 ghost use Rattle.aiger_read.specs.Reading.{Gives, literal_at, many_at, line_end_at};
 
 use crate::fault::{AigerWhy, ReadStop, Stop};

@@ -1,9 +1,9 @@
 //! The lines behind the ANDs: symbols of inputs and outputs, up to a line `c` or the end of the file.
 
-ghost use Rattle.std.specs.Prelude.{◌≡◌, ◌≤◌, ◌+◌, ℕ, length, replicate, drop, take, None, Some, IfOk, IfErr, MatchBool};
+ghost use Rattle.std.specs.Prelude.{◌≡◌, ◌≤◌, ◌+◌, length, replicate, drop, take, None, Some, IfOk, IfErr, MatchBool};
 ghost use Rattle.std.specs.Option.{option_map};
 ghost use Rattle.aiger_read.specs.Reading.{Gives};
-ghost use Rattle.aiger_read.specs.Symbols.{line_length, name_of, symbol_of, with_symbol, line_at, ends_symbols, symbols_at, with_line};
+ghost use Rattle.aiger_read.specs.Symbols.{line_length, name_of, symbol_of, with_symbol, ends_symbols, symbols_at, with_line};
 ghost use Rattle.aiger_read.specs.declared.fault.ReadStop.TheVariants as stop;
 
 use crate::fault::{AigerWhy, ReadStop, Stop};

@@ -1,6 +1,6 @@
 //! An ASCII file, as it stands.
 
-ghost use Rattle.std.specs.Prelude.{◌≡◌, ◌<◌, ◌≤◌, ◌/◌, ℕ, slice_get, length, map, Some, IfOk};
+ghost use Rattle.std.specs.Prelude.{◌≡◌, ◌≤◌, ◌/◌, ℕ, slice_get, map, Some, IfOk};
 ghost use Rattle.aiger_read.specs.declared.lines.Used.{Used};
 ghost use Rattle.aiger_read.specs.declared.lines.Line.{Line};
 ghost use Rattle.aiger_read.specs.Reading.{Gives};
