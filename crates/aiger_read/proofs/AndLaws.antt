@@ -42,7 +42,7 @@ and_read lhs bytes rest one e =
     } in
     subst (λ (o : And). BeginsWithAnd lhs bytes o rest) one_is (subst (BeginsWithAnd lhs bytes made) rest_is here)
 
-some_test : (first lhs : ℕ) → 1 ≤ first → first ≤ lhs → (first == 0 || nat_lt lhs first) ≡ false
+pub some_test : (first lhs : ℕ) → 1 ≤ first → first ≤ lhs → (first == 0 || nat_lt lhs first) ≡ false
 some_test first lhs low high = go (first == 0) refl where
   go : (t : Bool) → (first == 0) ≡ t → (t || nat_lt lhs first) ≡ false
   go true is = let none : first ≡ 0 = eqb-true first 0 is in absurd (omega arith)

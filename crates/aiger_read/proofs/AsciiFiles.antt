@@ -198,6 +198,19 @@ ascii_in_order bytes aig graph (text, e, (names, renames, first)) = (ascii_read 
 
 -- ---- from a file
 
+pub join_some : (one two : List (List ℕ)) → AllSome one → AllSome two → AllSome (one ++ two)
+join_some [] two a b = b
+join_some (x ∷ one) two a b = (a.0, join_some one two a.1 b)
+
+pub ands_some : (lines : List (List ℕ)) (ands : List And) → AllZip IsAndLine lines ands → AllSome lines
+ands_some [] ands all = tt
+ands_some (line ∷ lines) [] all = absurd all
+ands_some (line ∷ lines) (one ∷ ands) all =
+    let w = all.0 in
+    let some = field_some w.lhs one.lhs w.lhs_writes in
+    let len : length line ≡ length w.lhs + length (in_fields (w.rhs0 ∷ w.rhs1 ∷ [])) = ap length w.line_is ∙ length-append w.lhs (in_fields (w.rhs0 ∷ w.rhs1 ∷ [])) in
+    (omega arith, ands_some lines ands all.1)
+
 parts_of : (bytes : List ℕ) (aig : Aig) (f : IsAsciiFile bytes aig) → TextParts bytes f.listing
 parts_of bytes aig f =
     let tail = tail_of f.bytes_are in
@@ -230,19 +243,6 @@ parts_of bytes aig f =
       end = tail.end;
     }
   where
-    join_some : (one two : List (List ℕ)) → AllSome one → AllSome two → AllSome (one ++ two)
-    join_some [] two a b = b
-    join_some (x ∷ one) two a b = (a.0, join_some one two a.1 b)
-
-    ands_some : (lines : List (List ℕ)) (ands : List And) → AllZip IsAndLine lines ands → AllSome lines
-    ands_some [] ands all = tt
-    ands_some (line ∷ lines) [] all = absurd all
-    ands_some (line ∷ lines) (one ∷ ands) all =
-        let w = all.0 in
-        let some = field_some w.lhs one.lhs w.lhs_writes in
-        let len : length line ≡ length w.lhs + length (in_fields (w.rhs0 ∷ w.rhs1 ∷ [])) = ap length w.line_is ∙ length-append w.lhs (in_fields (w.rhs0 ∷ w.rhs1 ∷ [])) in
-        (omega arith, ands_some lines ands all.1)
-
     head_long : 0 < length f.head
     head_long = (let len = ap length f.head_line.line_is in omega arith)
 
@@ -277,11 +277,11 @@ known defined used (inr (at, is)) = go (used.literal / 2 == 0) (in_at defined at
   go true h = refl
   go false h = rw h refl
 
-all_known : (defined : List ℕ) (uses : List Used) → ((at literal : ℕ) → slice_get (map (λ (u : Used). u.literal) uses) at ≡ Some literal → IsDefined defined literal) → known_at defined uses ≡ given tt
+pub all_known : (defined : List ℕ) (uses : List Used) → ((at literal : ℕ) → slice_get (map (λ (u : Used). u.literal) uses) at ≡ Some literal → IsDefined defined literal) → known_at defined uses ≡ given tt
 all_known defined [] each = refl
 all_known defined (used ∷ uses) each = rw (known defined used (each 0 used.literal refl)) (all_known defined uses (λ at literal is. each (suc at) literal is))
 
-uses_known : (defined : List ℕ) (lines : List Line) → ((at : ℕ) (one : And) → slice_get (map and_of lines) at ≡ Some one → IsDefined defined one.rhs0 × IsDefined defined one.rhs1) → known_at defined (uses_of lines) ≡ given tt
+pub uses_known : (defined : List ℕ) (lines : List Line) → ((at : ℕ) (one : And) → slice_get (map and_of lines) at ≡ Some one → IsDefined defined one.rhs0 × IsDefined defined one.rhs1) → known_at defined (uses_of lines) ≡ given tt
 uses_known defined [] each = refl
 uses_known defined (line ∷ lines) each =
     let both = each 0 (and_of line) refl in
@@ -296,7 +296,7 @@ record TextOf (bytes : List ℕ) (listing : Listing) : Type 0 where
   read : text_at bytes ≡ given text
   lists : listing_of text ≡ listing
 
-same_map : (xs ys : List ℕ) → map (λ (x : ℕ). x) xs ≡ ys → xs ≡ ys
+pub same_map : (xs ys : List ℕ) → map (λ (x : ℕ). x) xs ≡ ys → xs ≡ ys
 same_map [] ys e = e
 same_map (x ∷ xs) [] e = absurd cc
 same_map (x ∷ xs) (y ∷ ys) e = ap (λ (z : ℕ). z ∷ xs) (first x y (map (λ (x : ℕ). x) xs) ys e) ∙ ap (λ (zs : List ℕ). y ∷ zs) (same_map xs ys (rest x y (map (λ (x : ℕ). x) xs) ys e)) where
@@ -314,7 +314,7 @@ same_map (x ∷ xs) (y ∷ ys) e = ap (λ (z : ℕ). z ∷ xs) (first x y (map (
   rest : (a b : ℕ) (us vs : List ℕ) → a ∷ us ≡ b ∷ vs → us ≡ vs
   rest a b us vs h = ap tail_of h
 
-lhs_map : (lines : List Line) (ands : List And) → map and_of lines ≡ ands → lhs_of lines ≡ lhs_of_all ands
+pub lhs_map : (lines : List Line) (ands : List And) → map and_of lines ≡ ands → lhs_of lines ≡ lhs_of_all ands
 lhs_map lines ands e = sym (fused lines) ∙ ap lhs_of_all e
 
 text_again : (bytes : List ℕ) (listing : Listing) → TextParts bytes listing → IsListing listing → TextOf bytes listing

@@ -97,7 +97,7 @@ use_number top bytes x e =
     let same : made ≡ x = same_value made x range.1 in
     number.1 ∙ ap (λ (p : Used × List ℕ). given (number_pair p.0.literal p.1)) same
 
-use_written : (top n : ℕ) (bytes rest : List ℕ) → number_at bytes ≡ given (number_pair n rest) → n ≤ 2 * top + 1 → use_at top bytes ≡ given (record { literal = n; left = length bytes }, rest)
+pub use_written : (top n : ℕ) (bytes rest : List ℕ) → number_at bytes ≡ given (number_pair n rest) → n ≤ 2 * top + 1 → use_at top bytes ≡ given (record { literal = n; left = length bytes }, rest)
 unfolding use_at
 use_written top n bytes rest read le = rw (read, le-ltb (2 * top + 1) n le) refl
 

@@ -91,7 +91,7 @@ literals_read top (suc count) place bytes literals rest e =
     let more = literals_read top count (place + 1) first.0.1 others.0.0 rest (others.1 ∙ ap (λ (r : List ℕ). given (lists others.0.0 r)) rest_is) in
     subst (λ (l : List ℕ). LiteralLines bytes l rest) literals_are (record { lines = line.field ∷ more.lines; write = (line.writes, more.write); at = (first.0.1, line.at, more.at) })
 
-literals_written : (top : ℕ) (lines : List (List ℕ)) (literals : List ℕ) (place : ℕ) (bytes rest : List ℕ) → AllZip WritesNumber lines literals → LinesAt lines bytes rest → ((k d : ℕ) → k < length literals → get_or literals k d ≤ top)
+pub literals_written : (top : ℕ) (lines : List (List ℕ)) (literals : List ℕ) (place : ℕ) (bytes rest : List ℕ) → AllZip WritesNumber lines literals → LinesAt lines bytes rest → ((k d : ℕ) → k < length literals → get_or literals k d ≤ top)
     → many_at (λ p. literal_at top) place (length literals) bytes ≡ given (literals, rest)
 unfolding many_at
 literals_written top [] [] place bytes rest write at low = ap (λ (r : List ℕ). given (lists [] r)) at
@@ -180,7 +180,7 @@ ands_read inputs (suc count) place bytes xs rest e =
       parts = text.parts ∙ ap (λ (r : List ℕ). text.text ++ r) more.parts ∙ sym (append_assoc text.text (concat more.texts) rest);
     })
 
-ands_written : (inputs : ℕ) (texts : List (List ℕ)) (xs : List And) (place : ℕ) (rest : List ℕ) → AllZip WritesAnd texts xs → ((k : ℕ) (one : And) → slice_get xs k ≡ Some one → IsAndAt inputs (place + k) one)
+pub ands_written : (inputs : ℕ) (texts : List (List ℕ)) (xs : List And) (place : ℕ) (rest : List ℕ) → AllZip WritesAnd texts xs → ((k : ℕ) (one : And) → slice_get xs k ≡ Some one → IsAndAt inputs (place + k) one)
     → many_at (λ p. and_at (2 * (inputs + p + 1))) place (length xs) (concat texts ++ rest) ≡ given (and_list xs rest)
 unfolding many_at
 ands_written inputs [] [] place rest write each = refl

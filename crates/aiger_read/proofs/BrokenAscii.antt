@@ -31,7 +31,7 @@ use Rattle.aiger_read.proofs.BrokenBinary.{used_right}
 
 -- ---- literals
 
-out_none : (top n : ℕ) → is_out top n ≡ true → IsDefinition top n → ⊥
+pub out_none : (top n : ℕ) → is_out top n ≡ true → IsDefinition top n → ⊥
 out_none top n out (variable, is, low, high) = (
     let even : n % 2 ≢ 1 = λ e. absurd (omega arith) in
     let inside = not_out top n (omega arith) even (omega arith) in

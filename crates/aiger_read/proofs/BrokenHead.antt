@@ -182,7 +182,7 @@ no_fit : (form : Form) (h : Header) → fits_form form h ≡ false → FitsForm 
 no_fit form.Ascii h e le = let bad : true ≡ false = sym (le-leb (h.inputs + h.ands) h.variables le) ∙ e in absurd cc
 no_fit form.Binary h e same = let bad : true ≡ false = sym (eq-eqb h.variables (h.inputs + h.ands) same) ∙ e in absurd cc
 
-word_long : (form : Form) (bytes : List ℕ) → length (word_of form ++ bytes) ≡ 4 + length bytes
+pub word_long : (form : Form) (bytes : List ℕ) → length (word_of form ++ bytes) ≡ 4 + length bytes
 word_long form.Ascii bytes = omega arith
 word_long form.Binary bytes = omega arith
 

@@ -35,13 +35,13 @@ use Rattle.aiger_read.proofs.BrokenAscii.{literals_of, ascii_front, front_shorte
 -- ---- one of many
 
 -- One of those that were read: what was read before it, and it.
-record OneOf {A : Type 0} (one : List A → List ℕ → Result (A × List ℕ) Stop) (place : ℕ) (front : List A) (bytes : List ℕ) (xs : List A) : Type 0 where
-  before : List A × List ℕ
-  item : A × List ℕ
-  later : List A
-  first : more_at one place front bytes ≡ given before
-  read : one before.0 before.1 ≡ given item
-  parts : xs ≡ before.0 ++ item.0 ∷ later
+pub record OneOf {A : Type 0} (one : List A → List ℕ → Result (A × List ℕ) Stop) (place : ℕ) (front : List A) (bytes : List ℕ) (xs : List A) : Type 0 where
+  pub before : List A × List ℕ
+  pub item : A × List ℕ
+  pub later : List A
+  pub first : more_at one place front bytes ≡ given before
+  pub read : one before.0 before.1 ≡ given item
+  pub parts : xs ≡ before.0 ++ item.0 ∷ later
 
 -- what was read begins with what was there
 keeps_front : {A : Type 0} (one : List A → List ℕ → Result (A × List ℕ) Stop) (count : ℕ) (front : List A) (bytes : List ℕ) (xs : List A × List ℕ) → more_at one count front bytes ≡ given xs → (items : List A) × (xs.0 ≡ front ++ items)
@@ -51,7 +51,7 @@ keeps_front one (suc count) front bytes xs e =
     let more = keeps_front one count (front ++ first.0.0 ∷ []) first.0.1 xs first.2 in
     (first.0.0 ∷ more.0, more.1 ∙ append_assoc front (first.0.0 ∷ []) more.0)
 
-one_of : {A : Type 0} (one : List A → List ℕ → Result (A × List ℕ) Stop) (place count : ℕ) (front : List A) (bytes : List ℕ) (xs : List A × List ℕ) → place < count → more_at one count front bytes ≡ given xs → OneOf one place front bytes xs.0
+pub one_of : {A : Type 0} (one : List A → List ℕ → Result (A × List ℕ) Stop) (place count : ℕ) (front : List A) (bytes : List ℕ) (xs : List A × List ℕ) → place < count → more_at one count front bytes ≡ given xs → OneOf one place front bytes xs.0
 one_of one place zero front bytes xs lt e = absurd (omega arith)
 one_of one zero (suc count) front bytes xs lt e =
     let first = bind_ok (one front bytes) (λ x. more_at one count (front ++ x.0 ∷ []) x.1) xs e in
@@ -70,19 +70,19 @@ one_of {A} one (suc place) (suc count) front bytes xs lt e =
     }
 
 -- the one at a place stands behind so many
-one_at : {A : Type 0} (xs before later : List A) (x y : A) (place : ℕ) → xs ≡ before ++ x ∷ later → length before ≡ place → slice_get xs place ≡ Some y → x ≡ y
+pub one_at : {A : Type 0} (xs before later : List A) (x y : A) (place : ℕ) → xs ≡ before ++ x ∷ later → length before ≡ place → slice_get xs place ≡ Some y → x ≡ y
 one_at xs before later x y place parts many is =
     let here : length before + 0 ≡ place = omega arith in
     let there : slice_get xs place ≡ Some x = ap (slice_get xs) (sym here) ∙ ap (λ l. slice_get l (length before + 0)) parts ∙ get_behind before (x ∷ later) 0 in
     same_Some x y (sym there ∙ is)
 
-map_append : {A B : Type 0} (f : A → B) (xs ys : List A) → map f (xs ++ ys) ≡ map f xs ++ map f ys
+pub map_append : {A B : Type 0} (f : A → B) (xs ys : List A) → map f (xs ++ ys) ≡ map f xs ++ map f ys
 map_append f [] ys = refl
 map_append f (x ∷ xs) ys = ap (λ l. f x ∷ l) (map_append f xs ys)
 
 -- ---- the first literal that nothing defines
 
-undefined_stop : Used → Stop
+unfoldable pub undefined_stop : Used → Stop
 undefined_stop used = record { left = used.left; why = why.Undefined used.literal }
 
 record UseStop (definitions : List ℕ) (uses : List Used) (stop : Stop) : Type 0 where
@@ -146,10 +146,10 @@ operands_err definitions (l ∷ lines) stop e = elim (bind_err (use_known_at def
 
 -- ---- where it stands
 
-record UseField (bytes : List ℕ) (used : Used) : Type 0 where
-  tail : List ℕ
-  field : FieldAt bytes used.literal tail
-  left : used.left ≡ length bytes
+pub record UseField (bytes : List ℕ) (used : Used) : Type 0 where
+  pub tail : List ℕ
+  pub field : FieldAt bytes used.literal tail
+  pub left : used.left ≡ length bytes
 
 use_left : (top : ℕ) (bytes : List ℕ) (x : Used × List ℕ) → use_at top bytes ≡ Ok x → x.0.left ≡ length bytes
 unfolding use_at
@@ -173,7 +173,7 @@ undefined_place bytes used stop left same =
     let here : stop.left ≡ used.left = ap (λ (s : Stop). s.left) (sym same) in
     record { cause = ap (λ (s : Stop). s.why) (sym same); left = omega arith }
 
-output_field : (top : ℕ) (bytes : List ℕ) (x : Used × List ℕ) → output_at top bytes ≡ Ok x → UseField bytes x.0
+pub output_field : (top : ℕ) (bytes : List ℕ) (x : Used × List ℕ) → output_at top bytes ≡ Ok x → UseField bytes x.0
 unfolding output_at
 output_field top bytes x e =
     let start = bind_ok (start_at bytes) (λ line. use_at top line >>= λ y. line_end_at y.1 >>= λ behind. Ok (use_pair y.0 behind)) x e in
@@ -184,20 +184,20 @@ output_field top bytes x e =
     subst (UseField bytes) is (subst (λ (b : List ℕ). UseField b used.0.0) (sym line) (use_field top start.0 used.0 used.1))
 
 -- the fields of the line of an AND
-record LineFields (bytes : List ℕ) (line : Line) : Type 0 where
-  t0 : List ℕ
-  b1 : List ℕ
-  b2 : List ℕ
-  lhs : FieldAt bytes line.lhs t0
-  gap0 : t0 ≡ 32 ∷ b1
-  rhs0 : UseField b1 line.rhs0
-  gap1 : rhs0.tail ≡ 32 ∷ b2
-  rhs1 : UseField b2 line.rhs1
+pub record LineFields (bytes : List ℕ) (line : Line) : Type 0 where
+  pub t0 : List ℕ
+  pub b1 : List ℕ
+  pub b2 : List ℕ
+  pub lhs : FieldAt bytes line.lhs t0
+  pub gap0 : t0 ≡ 32 ∷ b1
+  pub rhs0 : UseField b1 line.rhs0
+  pub gap1 : rhs0.tail ≡ 32 ∷ b2
+  pub rhs1 : UseField b2 line.rhs1
 
 line_of : ℕ → Used → Used → Line
 line_of lhs rhs0 rhs1 = record { lhs = lhs; rhs0 = rhs0; rhs1 = rhs1 }
 
-line_fields_of : (top : ℕ) (defined bytes : List ℕ) (x : Line × List ℕ) → and_line_at top defined bytes ≡ Ok x → LineFields bytes x.0
+pub line_fields_of : (top : ℕ) (defined bytes : List ℕ) (x : Line × List ℕ) → and_line_at top defined bytes ≡ Ok x → LineFields bytes x.0
 unfolding and_line_at line_of
 line_fields_of top defined bytes x e =
     let start = bind_ok (start_at bytes) (λ line. definition_at top defined line >>= λ lhs. gap_at lhs.1 >>= λ one. use_at top one >>= λ rhs0. gap_at rhs0.1 >>= λ two. use_at top two >>= λ rhs1. line_end_at rhs1.1 >>= λ behind. Ok (line_of lhs.0 rhs0.0 rhs1.0, behind)) x e in

@@ -73,7 +73,7 @@ groups_ok (suc most) (b ∷ bs) n rest e = go (nat_lt b 128) refl e (λ x. group
       record { front = b ∷ []; parts = ap (λ (r : List ℕ). b ∷ r) behind; few = omega arith; groups = (lt, sym value); small = omega arith }
   go false is h more = low (groups_at most bs) refl (ltb-false b 128 is) h more
 
-groups_again : (front : List ℕ) (most n : ℕ) (rest : List ℕ) → length front ≤ most → WriteGroups front n → n < 2 ^ 32 → groups_at most (front ++ rest) ≡ Some (n, rest)
+pub groups_again : (front : List ℕ) (most n : ℕ) (rest : List ℕ) → length front ≤ most → WriteGroups front n → n < 2 ^ 32 → groups_at most (front ++ rest) ≡ Some (n, rest)
 groups_again [] most n rest le groups small = absurd groups
 groups_again (b ∷ []) zero n rest le groups small = absurd (omega arith)
 groups_again (b ∷ []) (suc most) n rest le groups small =
@@ -84,7 +84,7 @@ groups_again (b ∷ c ∷ bs) (suc most) n rest le (high_bit, high, sum, groups)
     let value : b - 128 + 128 * high ≡ n = omega arith in
     rw (le-ltb b 128 high_bit, inner, value, lt-ltb n (2 ^ 32) small) refl
 
-cut_again : (front : List ℕ) (most n : ℕ) (rest : List ℕ) → length front ≤ most → WriteGroups front n → is_cut most (front ++ rest) ≡ false
+pub cut_again : (front : List ℕ) (most n : ℕ) (rest : List ℕ) → length front ≤ most → WriteGroups front n → is_cut most (front ++ rest) ≡ false
 cut_again [] most n rest le groups = absurd groups
 cut_again (b ∷ []) zero n rest le groups = absurd (omega arith)
 cut_again (b ∷ []) (suc most) n rest le groups = rw (lt-ltb b 128 groups.0) refl

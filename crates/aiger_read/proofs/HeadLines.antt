@@ -38,7 +38,7 @@ digits_spaces (b ∷ bs) tail all =
     let none : 0 + spaces_in tail ≡ spaces_in tail = omega arith in
     rw ((digit_apart b all.0).1, (digit_apart b all.0).0, more) none
 
-field_spaces : (field tail : List ℕ) (n : ℕ) → WritesNumber field n → spaces_in (field ++ tail) ≡ spaces_in tail
+pub field_spaces : (field tail : List ℕ) (n : ℕ) → WritesNumber field n → spaces_in (field ++ tail) ≡ spaces_in tail
 field_spaces field tail n w = digits_spaces field tail w.digits.1
 
 tail_spaces : (tail rest : List ℕ) → IsTail tail rest → spaces_in tail ≡ 0
@@ -61,7 +61,7 @@ record Last (bytes : List ℕ) (n : ℕ) (rest : List ℕ) : Type 0 where
   ends : IsTail tail rest
 
 -- what may stand behind a field
-is_space : (tail rest : List ℕ) (k : ℕ) → field_length tail ≡ 0 → spaces_in tail ≡ suc k → drop 1 tail ≡ rest → (tail ≡ 32 ∷ rest) × (spaces_in rest ≡ k)
+pub is_space : (tail rest : List ℕ) (k : ℕ) → field_length tail ≡ 0 → spaces_in tail ≡ suc k → drop 1 tail ≡ rest → (tail ≡ 32 ∷ rest) × (spaces_in rest ≡ k)
 is_space [] rest k stops count behind = absurd (omega arith)
 is_space (x ∷ xs) rest k stops count behind = go (x == 32) (x == 10) refl refl stops count where
   go : (s n : Bool) → (x == 32) ≡ s → (x == 10) ≡ n → cond (s || n) 0 (1 + field_length xs) ≡ 0 → cond n 0 (cond s 1 0 + spaces_in xs) ≡ suc k → (x ∷ xs ≡ 32 ∷ rest) × (spaces_in rest ≡ k)
@@ -72,7 +72,7 @@ is_space (x ∷ xs) rest k stops count behind = go (x == 32) (x == 10) refl refl
       (ap (λ (b : ℕ). b ∷ xs) space ∙ ap (λ (r : List ℕ). 32 ∷ r) behind, ap spaces_in (sym behind) ∙ left)
   go false false s_is n_is h c = absurd (omega arith)
 
-is_end : (tail rest : List ℕ) → field_length tail ≡ 0 → spaces_in tail ≡ 0 → drop 1 tail ≡ rest → IsTail tail rest
+pub is_end : (tail rest : List ℕ) → field_length tail ≡ 0 → spaces_in tail ≡ 0 → drop 1 tail ≡ rest → IsTail tail rest
 is_end [] rest stops count behind = inr (refl, sym behind)
 is_end (x ∷ xs) rest stops count behind = go (x == 32) (x == 10) refl refl stops count where
   go : (s n : Bool) → (x == 32) ≡ s → (x == 10) ≡ n → cond (s || n) 0 (1 + field_length xs) ≡ 0 → cond n 0 (cond s 1 0 + spaces_in xs) ≡ 0 → IsTail (x ∷ xs) rest
@@ -183,7 +183,7 @@ pub word_begins : (form : Form) (bytes : List ℕ) → starts_with nat_eq (word_
 word_begins form.Ascii bytes = refl
 word_begins form.Binary bytes = refl
 
-word_behind : (form : Form) (bytes : List ℕ) → drop 4 (word_of form ++ bytes) ≡ bytes
+pub word_behind : (form : Form) (bytes : List ℕ) → drop 4 (word_of form ++ bytes) ≡ bytes
 word_behind form.Ascii bytes = refl
 word_behind form.Binary bytes = refl
 
@@ -305,10 +305,11 @@ head_read form bytes header rest e =
 few_spaces : (n z : ℕ) → n ≡ suc (suc (suc (suc (suc z)))) → z ≤ 4 → (nat_le 5 n ≡ true) × (nat_le n 9 ≡ true) × (n - 5 ≡ z)
 few_spaces n z is le = (le-leb 5 n (omega arith), le-leb n 9 (omega arith), omega arith)
 
-pub head_written : (form : Form) (bytes : List ℕ) (header : Header) (rest line : List ℕ) → IsHeadLine form header.variables header.inputs header.outputs header.ands line → LineAt line bytes rest → header.variables ≤ 1000000 → fits_form form header ≡ true
-    → header_at form bytes ≡ given (header, rest)
+-- a line that is written is read, up to the rule on M
+pub head_tested : (form : Form) (bytes : List ℕ) (header : Header) (rest line : List ℕ) → IsHeadLine form header.variables header.inputs header.outputs header.ands line → LineAt line bytes rest → header.variables ≤ 1000000
+    → header_at form bytes ≡ cond (fits_form form header) (Ok (header, rest)) (Err (fault why.Header bytes))
 unfolding header_at counts_at
-head_written form bytes header rest line h at limit fits =
+head_tested form bytes header rest line h at limit =
     let f = further_again h.a header.ands h.further at.tail rest h.a_writes h.zeros at.ends in
     let ra = h.a ++ (in_fields h.further ++ at.tail) in
     let ro = h.o ++ 32 ∷ ra in
@@ -330,4 +331,8 @@ head_written form bytes header rest line h at limit fits =
     let l : field_at rl ≡ given (0, ro) = space_behind h.l ro 0 h.l_writes in
     let o : field_at ro ≡ given (header.outputs, ra) = space_behind h.o ra header.outputs h.o_writes in
     let below : nat_lt 1000000 header.variables ≡ false = le-ltb 1000000 header.variables limit in
-    rw whole (rw (word_begins form rm, few.0, few.1, word_behind form rm, m, below, i, l, o, f.first, few.2, f.zeros, fits) refl)
+    rw whole (rw (word_begins form rm, few.0, few.1, word_behind form rm, m, below, i, l, o, f.first, few.2, f.zeros) refl)
+
+pub head_written : (form : Form) (bytes : List ℕ) (header : Header) (rest line : List ℕ) → IsHeadLine form header.variables header.inputs header.outputs header.ands line → LineAt line bytes rest → header.variables ≤ 1000000 → fits_form form header ≡ true
+    → header_at form bytes ≡ given (header, rest)
+head_written form bytes header rest line h at limit fits = head_tested form bytes header rest line h at limit ∙ rw fits refl

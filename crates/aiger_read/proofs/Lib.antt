@@ -27,3 +27,11 @@ pub mod BrokenHead
 pub mod BrokenAscii
 pub mod BrokenUses
 pub mod Broken
+pub mod StopLines
+pub mod StopHead
+pub mod StopSymbols
+pub mod StopBinary
+pub mod StopAscii
+pub mod StopUses
+pub mod Causes
+pub mod Exact

@@ -300,14 +300,14 @@ symbols_read (suc n) names after bytes e le = go (ends_symbols bytes) refl e (sy
 
 -- ---- written
 
-end_written : (rest : List ℕ) → EndAt rest → ends_symbols rest ≡ true
+pub end_written : (rest : List ℕ) → EndAt rest → ends_symbols rest ≡ true
 end_written rest (inl none) = rw none refl
 end_written rest (inr (more, line)) = subst (λ (r : List ℕ). ends_symbols r ≡ true) (sym line.parts) (go line.tail line.ends) where
   go : (tail : List ℕ) → IsTail tail more → ends_symbols (99 ∷ [] ++ tail) ≡ true
   go tail (inl newline) = rw newline refl
   go tail (inr (empty, none)) = rw empty refl
 
-symbol_goes : (names next : Entries × Entries) (line : List ℕ) → with_line names line ≡ Some next → bytes_eq line (99 ∷ []) ≡ false
+pub symbol_goes : (names next : Entries × Entries) (line : List ℕ) → with_line names line ≡ Some next → bytes_eq line (99 ∷ []) ≡ false
 symbol_goes names next line e = go (bytes_eq line (99 ∷ [])) refl where
   go : (t : Bool) → bytes_eq line (99 ∷ []) ≡ t → bytes_eq line (99 ∷ []) ≡ false
   go false is = is
@@ -316,11 +316,11 @@ symbol_goes names next line e = go (bytes_eq line (99 ∷ [])) refl where
       let bad : with_line names (99 ∷ []) ≡ Some next = ap (with_line names) (sym same) ∙ e in
       absurd cc
 
-goes_on : (bytes : List ℕ) → 0 < length bytes → bytes_eq (take (line_length bytes) bytes) (99 ∷ []) ≡ false → ends_symbols bytes ≡ false
+pub goes_on : (bytes : List ℕ) → 0 < length bytes → bytes_eq (take (line_length bytes) bytes) (99 ∷ []) ≡ false → ends_symbols bytes ≡ false
 goes_on [] lt e = absurd (omega arith)
 goes_on (b ∷ bs) lt e = e
 
-written_step : (n : ℕ) (names next : Entries × Entries) (bytes : List ℕ) → ends_symbols bytes ≡ false → with_line names (take (line_length bytes) bytes) ≡ Some next → symbols_at (suc n) names bytes ≡ symbols_at n next (drop (line_length bytes + 1) bytes)
+pub written_step : (n : ℕ) (names next : Entries × Entries) (bytes : List ℕ) → ends_symbols bytes ≡ false → with_line names (take (line_length bytes) bytes) ≡ Some next → symbols_at (suc n) names bytes ≡ symbols_at n next (drop (line_length bytes + 1) bytes)
 unfolding symbols_at line_at
 written_step n names next bytes goes put = rw (goes, put) refl
 

@@ -1,6 +1,7 @@
 -- Where a file breaks and for what cause: pieces as a writer writes them, up to a place, and then one that is not.
 use Rattle.std.specs.Prelude.{◌≡◌, ◌≢◌, ℕ, ◌+◌, ◌-◌, ◌*◌, ◌<◌, ◌≤◌, ◌⊎◌, ◌^◌, true, false, List, [], ◌∷◌, ◌++◌, length, take, replicate, slice_get, Some, None}
 use Rattle.std.specs.List.{AllZip, concat}
+use Rattle.golden_aig.specs.declared.graph.Aig.{Aig}
 use Rattle.golden_aig.specs.declared.graph.And.{And}
 use Rattle.golden_aig.specs.Aig.{IsAndAt}
 use Rattle.and_order.specs.Numbers.{HoldsOnce}
@@ -16,7 +17,7 @@ use Rattle.aiger_read.specs.Header.{spaces_in, word_of}
 use Rattle.aiger_read.specs.Symbols.{Entries, line_length}
 use Rattle.aiger_read.specs.Spelling.{WritesNumber, WriteGroups, BeginsWithDifference}
 use Rattle.aiger_read.specs.Both.{is_ascii, IsFault}
-use Rattle.aiger_read.specs.Spelled.{in_lines, LacksNewline, IsHeadLine, IsSymbolLine, AreSymbolLines, WritesAnd, IsAndLine}
+use Rattle.aiger_read.specs.Spelled.{in_lines, LacksNewline, IsHeadLine, IsSymbolLine, AreSymbolLines, WritesAnd, IsAndLine, Spelled}
 
 -- ---- fields
 
@@ -314,3 +315,19 @@ Breaks bytes offset cause = (is_ascii bytes ≡ true → BreaksAscii bytes offse
 -- a fault is want of memory, or the file breaks at its offset for its cause
 abbrev pub FaultsBreak : Type 0
 FaultsBreak = (bytes : List ℕ) (fault : AigerFault) → IsFault bytes fault → (fault.why ≡ why.Memory) ⊎ Breaks bytes fault.offset fault.why
+
+-- where a file breaks for a cause, that is its fault, and no want of memory
+abbrev pub BreaksAreFaults : Type 0
+BreaksAreFaults = (bytes : List ℕ) (offset : ℕ) (cause : AigerWhy) → Breaks bytes offset cause → (cause ≢ why.Memory) × IsFault bytes (record { offset = offset; why = cause })
+
+-- one cause, or a ring each, of which a file may have several
+abbrev pub IsSameCause : AigerWhy → AigerWhy → Type 0
+IsSameCause cause other = (cause ≡ other) ⊎ ((ring another : List ℕ) × (cause ≡ why.Cycle ring) × (other ≡ why.Cycle another))
+
+-- a file breaks at one place at most, and for one cause
+abbrev pub BreakOnce : Type 0
+BreakOnce = (bytes : List ℕ) (here there : ℕ) (cause other : AigerWhy) → Breaks bytes here cause → Breaks bytes there other → (here ≡ there) × IsSameCause cause other
+
+-- a file that spells a graph breaks nowhere
+abbrev pub SpelledBreakNowhere : Type 0
+SpelledBreakNowhere = (bytes : List ℕ) (aig : Aig) (offset : ℕ) (cause : AigerWhy) → Spelled bytes aig → Breaks bytes offset cause → ⊥

@@ -1,7 +1,7 @@
 //! What the readings of numbers and files mean, in the words of the format.
 
 ghost use Rattle.aiger_read.specs.Both.{FilesAreSpelled};
-ghost use Rattle.aiger_read.specs.Broken.{FaultsBreak};
+ghost use Rattle.aiger_read.specs.Broken.{FaultsBreak, BreaksAreFaults, BreakOnce, SpelledBreakNowhere};
 ghost use Rattle.aiger_read.specs.Spelled.{SpellOne};
 ghost use Rattle.aiger_read.specs.Spelling.{NumbersAreRead, DifferencesAreRead, AndsAreRead};
 
@@ -39,4 +39,20 @@ pub fn one_graph_is_spelled()
 /// and in which all that is used before, or all that is used, is defined.
 pub fn faults_break()
     ensures { FaultsBreak }
+{}
+
+/// And the other way: where a file breaks, and why, is its fault, and never want of memory. So both laws together say that a fault is exactly
+/// where a file breaks.
+pub fn breaks_are_faults()
+    ensures { BreaksAreFaults }
+{}
+
+/// A file breaks at one place at most, and for one cause; only where ANDs stand in rings, any of the rings may be named.
+pub fn files_break_once()
+    ensures { BreakOnce }
+{}
+
+/// A file that spells a graph breaks nowhere.
+pub fn spelled_files_break_nowhere()
+    ensures { SpelledBreakNowhere }
 {}
