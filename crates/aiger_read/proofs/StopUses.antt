@@ -24,7 +24,7 @@ use Rattle.aiger_read.proofs.WellFormed.{given, same_value}
 use Rattle.aiger_read.proofs.Listings.{used_defined}
 use Rattle.aiger_read.proofs.FieldTexts.{FieldAt, number_written}
 use Rattle.aiger_read.proofs.AsciiLines.{three_parts}
-use Rattle.aiger_read.proofs.AsciiFiles.{known, all_known, uses_known, length_map}
+use Rattle.aiger_read.proofs.AsciiFiles.{known, all_known, uses_known}
 use Rattle.aiger_read.proofs.BrokenLines.{failed}
 use Rattle.aiger_read.proofs.BrokenAscii.{literals_of}
 use Rattle.aiger_read.proofs.BrokenUses.{undefined_stop, OneOf, one_of, one_at, map_append, LineFields, line_fields_of, output_field}
@@ -159,9 +159,6 @@ outputs_unknown top inputs outputs ands literals uses xs bytes a stop e =
     let head = a.read.head in
     let unknown = ap (λ (d : List ℕ). known_at d a.read.used) a.defined ∙ e in
     rw (head, a.ins, a.outs, a.gates, a.symbols, unknown) refl
-
-length_of : (uses : List Used) (literals : List ℕ) → literals_of uses ≡ literals → length uses ≡ length literals
-length_of uses literals e = sym (length_map (λ (u : Used). u.literal) uses) ∙ ap length e
 
 long_behind : (before later : List ℕ) (n : ℕ) → length before < length (before ++ n ∷ later)
 long_behind before later n = (let sum = length-append before (n ∷ later) in omega arith)

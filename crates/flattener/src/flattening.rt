@@ -192,7 +192,7 @@ fn find_circuit(alloc: Global, bound: &Bound, cells: &CellTable) -> Result<Flat,
 /// `TwoDrivers` exactly where two different drivers drive one wire bit; `AliasLoop` exactly where wire bits follow each other in a ring;
 /// `NoDriver` exactly where nothing drives the place of a reading pin or of an output bit. `Memory` where memory could not be had.
 /// What is refused for another cause than memory has no circuit within the limits in which each wire bit has one driver and none stand in a
-/// ring. It has no other refusal but for memory and, where a ring is named, for a ring; and what has a circuit has none.
+/// ring. It has no other refusal but `Memory` and, where a ring is named, one that names another ring; and what has a circuit has none.
 pub fn flatten(alloc: Global, bound: &Bound, cells: &CellTable) -> Result<Flat, FlatFault>
     requires table { IsTable cells.now }
     requires bound { IsBound cells.now bound.now }

@@ -1,4 +1,4 @@
--- A text has one refusal, but that of several rings any may be named.
+-- A text has one refusal, but that of the rings of modules with one first module, or of the rings of wire bits, any may be named.
 use Rattle.std.proofs.Common.{◌≡◌, ◌≢◌, ◌∙◌, ◌+◌, ◌<◌, ◌≤◌, ℕ, zero, suc, inl, inr, List, [], ◌∷◌, ◌++◌, map, take, length, refl, sym, ap, subst, arith}
 use Rattle.std.specs.Prelude.{Option}
 use Rattle.std.proofs.lemmas.Bool.{cases_order}
