@@ -356,36 +356,20 @@ fn rows_of_texts(rt: HostRuntime) -> Result<(), Fail> {
             b"accepted\n",
         ),
         // Texts that are refused before.
-        (
-            b"",
-            Status::Refused,
-            b"refused bind no top\n",
-        ),
+        (b"", Status::Refused, b"refused bind no top\n"),
         (
             b"module top(input a, output y);\nassign y = 1'b0;",
             Status::Refused,
             b"refused lex 43 bad byte\n",
         ),
-        (
-            b"/*",
-            Status::Refused,
-            b"refused lex 0 unended comment\n",
-        ),
+        (b"/*", Status::Refused, b"refused lex 0 unended comment\n"),
         (
             b"(* a",
             Status::Refused,
             b"refused lex 0 unended attribute\n",
         ),
-        (
-            b"\\\n",
-            Status::Refused,
-            b"refused lex 0 empty escape\n",
-        ),
-        (
-            b"`include",
-            Status::Refused,
-            b"refused lex 0 directive\n",
-        ),
+        (b"\\\n", Status::Refused, b"refused lex 0 empty escape\n"),
+        (b"`include", Status::Refused, b"refused lex 0 directive\n"),
         (
             b"9999999999",
             Status::Refused,
