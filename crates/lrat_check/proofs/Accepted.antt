@@ -22,33 +22,15 @@ use Rattle.dimacs_text.specs.Number.{signed_of}
 use Rattle.dimacs_text.specs.Text.{literal_text, spaced_literal}
 use Rattle.dimacs_text.specs.declared.number.Signed.{Signed}
 use Rattle.dimacs_text.proofs.Written.{Separates, newlines, spaces, apart, or_left, part_first, word_first, literal_free, literal_some, literals_free, signed_literal, literal_back, signed_read, signed_number, decimal_free, decimal_some, number_read, regroup}
-use Rattle.lrat_check.specs.Lines.{addition, number_field, field_of, list_from, list_of, with_hints, addition_of, behind_id, with_id, fields_say, has_outer_space, line_of}
-use Rattle.lrat_check.specs.declared.field.Field.{Field}
-use Rattle.lrat_check.specs.declared.field.Field.TheVariants.{Number}
-use Rattle.lrat_check.specs.Check.{Found, Known, given_at, with_clause, at_reading, at_clause, hints_fault, range_fault, clause_of, addition_fault, added, unless_why, after_line, on_from, lines_fault}
+use Rattle.lrat_lines.specs.Lines.{addition, number_field, field_of, list_from, list_of, with_hints, addition_of, behind_id, with_id, fields_say, has_outer_space, line_of}
+use Rattle.clause_table.specs.Found.{Found, given_at, with_clause}
+use Rattle.lrat_check.specs.Check.{Known, at_reading, at_clause, hints_fault, range_fault, clause_of, addition_fault, added, unless_why, after_line, on_from, lines_fault}
 use Rattle.lrat_check.specs.declared.fault.LratWhy.{LratWhy}
 use Rattle.lrat_check.specs.Written.{spaced_hint, step_lines, lrat_of, StandsFor, IsAccepted}
-use Rattle.lrat_check.proofs.CheckSays.{is_judged, given_more}
+use Rattle.clause_table.proofs.GivenSays.{given_more}
+use Rattle.lrat_check.proofs.CheckSays.{is_judged}
 
 -- ---- fields
-
-number_is : (number : Signed) → (number.size ≡ 0 → ⊥) → number_field (Some number) ≡ Number number
-number_is number some = rw (apart number.size 0 some) refl
-
-zero_signed : signed_of (48 ∷ []) ≡ Some (record { negative = false; size = 0 })
-zero_signed = refl
-
-field_is : (bytes : List ℕ) (number : Signed) → signed_of bytes ≡ Some number → (number.size ≡ 0 → ⊥) → field_of bytes ≡ Number number
-field_is bytes number is some = elim (cases_Bool (bytes_eq bytes (48 ∷ []))) [
-  | inl e ↦
-      let same : bytes ≡ 48 ∷ [] = (bytes_eq-Decides bytes (48 ∷ [])).0 e in
-      let both : Some number ≡ Some (record { negative = false; size = 0 }) = sym is ∙ ap signed_of same ∙ zero_signed in
-      absurd (some (let size : number.size ≡ 0 = cc in size))
-  | inr e ↦ rw e (ap number_field is ∙ number_is number some)
-]
-
-abbrev pub signed_hint : ℕ → Signed
-signed_hint hint = record { negative = false; size = hint + 1 }
 
 -- a list that was found and what stands behind it
 abbrev Listed : Type 0
@@ -57,10 +39,30 @@ Listed = Option (List Signed × List Part)
 abbrev listed : List Signed → List Part → Listed
 listed numbers rest = Some (numbers, rest)
 
-one_more : (bytes : List ℕ) (start : ℕ) (number : Signed) (fields : List Part) (numbers : List Signed) (rest : List Part) → field_of bytes ≡ Number number → list_of fields ≡ listed numbers rest
-    → list_of (record { start = start; bytes = bytes } ∷ fields) ≡ listed (number ∷ numbers) rest
-one_more bytes start number fields numbers rest here behind =
-    ap (λ (f : Field). list_from f fields (list_of fields)) here ∙ ap (list_from (Number number) fields) behind
+abbrev pub signed_hint : ℕ → Signed
+signed_hint hint = record { negative = false; size = hint + 1 }
+
+number_listed : (number : Signed) (fields : List Part) (numbers : List Signed) (rest : List Part) → (number.size ≡ 0 → ⊥)
+    → list_from (number_field (Some number)) fields (listed numbers rest) ≡ listed (number ∷ numbers) rest
+number_listed number fields numbers rest some = rw (apart number.size 0 some) refl
+
+zero_signed : signed_of (48 ∷ []) ≡ Some (record { negative = false; size = 0 })
+zero_signed = refl
+
+field_listed : (bytes : List ℕ) (number : Signed) (fields : List Part) (numbers : List Signed) (rest : List Part) → signed_of bytes ≡ Some number → (number.size ≡ 0 → ⊥)
+    → list_from (field_of bytes) fields (listed numbers rest) ≡ listed (number ∷ numbers) rest
+field_listed bytes number fields numbers rest is some = elim (cases_Bool (bytes_eq bytes (48 ∷ []))) [
+  | inl e ↦
+      let same : bytes ≡ 48 ∷ [] = (bytes_eq-Decides bytes (48 ∷ [])).0 e in
+      let both : Some number ≡ Some (record { negative = false; size = 0 }) = sym is ∙ ap signed_of same ∙ zero_signed in
+      absurd (some (let size : number.size ≡ 0 = cc in size))
+  | inr e ↦ rw e (ap (λ (n : Option Signed). list_from (number_field n) fields (listed numbers rest)) is ∙ number_listed number fields numbers rest some)
+]
+
+one_more : (bytes : List ℕ) (start : ℕ) (number : Signed) (fields : List Part) (numbers : List Signed) (rest : List Part) → signed_of bytes ≡ Some number → (number.size ≡ 0 → ⊥)
+    → list_of fields ≡ listed numbers rest → list_of (record { start = start; bytes = bytes } ∷ fields) ≡ listed (number ∷ numbers) rest
+one_more bytes start number fields numbers rest is some behind =
+    ap (list_from (field_of bytes) fields) behind ∙ field_listed bytes number fields numbers rest is some
 
 lits_listed : (at : ℕ) (lits : List ℕ) (after : List ℕ) → All (λ lit. lit / 2 + 1 ≤ 4294967295) lits
     → (place : ℕ) × (list_of (words is_space at (flat_map spaced_literal lits ++ 48 ∷ 32 ∷ after)) ≡ listed (map signed_literal lits) (words is_space place after))
@@ -71,11 +73,10 @@ lits_listed at (lit ∷ lits) after small =
     let split : words is_space at (flat_map spaced_literal (lit ∷ lits) ++ 48 ∷ 32 ∷ after)
     ≡ record { start = at; bytes = literal_text lit } ∷ words is_space (at + suc (length (literal_text lit))) (flat_map spaced_literal lits ++ 48 ∷ 32 ∷ after) =
     ap (words is_space at) (regroup (literal_text lit) (flat_map spaced_literal lits) (48 ∷ 32 ∷ after))
-    ∙ word_first is_space at (literal_text lit) 32 (flat_map spaced_literal lits ++ 48 ∷ 32 ∷ after) (literal_some lit (omega arith)) (literal_free is_space spaces lit (omega arith)) refl in
-    let field : field_of (literal_text lit) ≡ Number (signed_literal lit) = field_is (literal_text lit) (signed_literal lit) (signed_read lit here) (λ e. omega arith) in (
+    ∙ word_first is_space at (literal_text lit) 32 (flat_map spaced_literal lits ++ 48 ∷ 32 ∷ after) (literal_some lit (omega arith)) (literal_free is_space spaces lit (omega arith)) refl in (
       behind.0,
       ap list_of split ∙ one_more (literal_text lit) at (signed_literal lit) (words is_space (at + suc (length (literal_text lit))) (flat_map spaced_literal lits ++ 48 ∷ 32 ∷ after))
-          (map signed_literal lits) (words is_space behind.0 after) field behind.1,
+          (map signed_literal lits) (words is_space behind.0 after) (signed_read lit here) (λ e. omega arith) behind.1,
     )
 
 hints_listed : (at : ℕ) (hints : List ℕ) → All (λ hint. hint + 1 ≤ 4294967295) hints
@@ -88,9 +89,8 @@ hints_listed at (hint ∷ hints) small =
     ≡ record { start = at; bytes = decimal (hint + 1) } ∷ words is_space (at + suc (length (decimal (hint + 1)))) (flat_map spaced_hint hints ++ 48 ∷ []) =
     ap (words is_space at) (regroup (decimal (hint + 1)) (flat_map spaced_hint hints) (48 ∷ []))
     ∙ word_first is_space at (decimal (hint + 1)) 32 (flat_map spaced_hint hints ++ 48 ∷ []) (decimal_some (hint + 1) (omega arith)) (decimal_free is_space spaces (hint + 1) (omega arith)) refl in
-    let field : field_of (decimal (hint + 1)) ≡ Number (signed_hint hint) = field_is (decimal (hint + 1)) (signed_hint hint) (signed_number (hint + 1) here) (λ e. omega arith) in
     ap list_of split ∙ one_more (decimal (hint + 1)) at (signed_hint hint) (words is_space (at + suc (length (decimal (hint + 1)))) (flat_map spaced_hint hints ++ 48 ∷ []))
-    (map signed_hint hints) [] field behind
+    (map signed_hint hints) [] (signed_number (hint + 1) here) (λ e. omega arith) behind
 
 -- ---- a line
 

@@ -1,4 +1,3 @@
-pub mod FieldSays
 pub mod Refutes
 pub mod CheckSays
 pub mod Chain
@@ -12,4 +11,3 @@ pub mod Accepted
 mod StepLaw
 mod CommandLaw
 mod Reached
-pub mod EntrySays

@@ -15,8 +15,9 @@ use Rattle.dimacs_text.specs.declared.number.Signed.{Signed}
 use Rattle.lrat_check.specs.declared.fault.LratFault.{LratFault}
 use Rattle.lrat_check.specs.declared.fault.LratWhy.{LratWhy}
 use Rattle.lrat_check.specs.declared.fault.LratWhy.TheVariants as why
-use Rattle.lrat_check.specs.Lines.{Line, skipped, broken, addition, deletion, line_of}
-use Rattle.lrat_check.specs.Check.{Found, Known, given_at, with_clause, without_clause, known_at_first, at_reading, at_clause, hints_fault, range_fault, clause_of, or_else, addition_fault, added, unless_why, deleted, deleted_if, keeps, after_line, on_from, lines_fault, text_fault}
+use Rattle.lrat_lines.specs.Lines.{Line, skipped, broken, addition, deletion, line_of}
+use Rattle.clause_table.specs.Found.{Found, given_at, with_clause, without_clause}
+use Rattle.lrat_check.specs.Check.{Known, known_at_first, at_reading, at_clause, hints_fault, range_fault, clause_of, or_else, addition_fault, added, unless_why, deleted, deleted_if, keeps, after_line, on_from, lines_fault, text_fault}
 
 no_fault : {A : Type 0} (f : A) → Some f ≡ None → ⊥
 no_fault f e = cc

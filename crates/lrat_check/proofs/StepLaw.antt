@@ -1,11 +1,11 @@
 -- The reading of a text's hints is that of a step's.
 use Rattle.std.proofs.Common.{◌≡◌, ◌∙◌, ◌<◌, ◌≤◌, ◌*◌, ℕ, Bool, true, false, suc, refl, sym, ap, subst, arith, List, [], ◌∷◌, length, map, inl, inr, Option, Some, None, Ok}
-use Rattle.std.specs.Prelude.{◌==◌, ⊤, nat_lt, is_none, slice_get, if◌then◌else◌}
+use Rattle.std.specs.Prelude.{◌==◌, ⊤, nat_lt, is_none, option_map, slice_get, if◌then◌else◌}
 use Rattle.std.specs.List.{All}
 use Rattle.std.specs.Str.{bytes_eq}
 use Rattle.std.proofs.lemmas.Bool.{cases_Bool, lt-ltb}
 use Rattle.std.proofs.lemmas.Bool.Decides.{leb_tells, eqb_tells}
-use Rattle.std.proofs.lemmas.List.Elements.{All-head, All-tail, All-cons}
+use Rattle.std.proofs.lemmas.List.Elements.{All-head, All-tail, All-cons, All-nil}
 use Rattle.rsfq_ids.specs.Formula.{Clause, IsOver, opposite}
 use Rattle.proof_arena.specs.Step.{StepHolds, is_among, makes_false, is_tautology, reading, after_hint, after_clause, ends_in_conflict}
 use Rattle.proof_arena.specs.declared.hint.HintReading.{HintReading}
@@ -13,12 +13,11 @@ use Rattle.proof_arena.specs.declared.hint.HintReading.TheVariants.{Conflict, Pa
 use Rattle.dimacs_text.specs.Parts.{Part, words, is_space}
 use Rattle.dimacs_text.specs.Number.{number_up_to, signed_of, literal_of}
 use Rattle.dimacs_text.specs.declared.number.Signed.{Signed}
-use Rattle.lrat_check.specs.declared.field.Field.{Field}
-use Rattle.lrat_check.specs.declared.field.Field.TheVariants.{End, Number, Broken}
 use Rattle.lrat_check.specs.declared.fault.LratWhy.{LratWhy}
 use Rattle.lrat_check.specs.declared.fault.LratWhy.TheVariants as why
-use Rattle.lrat_check.specs.Lines.{Line, skipped, broken, addition, deletion, number_field, field_of, list_from, list_of, deletion_of, with_hints, addition_of, behind_id, with_id, fields_say, has_outer_space, line_of}
-use Rattle.lrat_check.specs.Check.{Found, Known, at_reading, at_clause, hints_fault, range_fault, clause_of, or_else, addition_fault, added, unless_why, after_line}
+use Rattle.lrat_lines.specs.Lines.{Line, skipped, broken, addition, deletion, number_field, field_of, list_from, list_of, deletion_of, with_hints, addition_of, behind_id, with_id, fields_say, has_outer_space, line_of}
+use Rattle.clause_table.specs.Found.{Found}
+use Rattle.lrat_check.specs.Check.{Known, at_reading, at_clause, hints_fault, range_fault, clause_of, or_else, addition_fault, added, unless_why, after_line}
 use Rattle.lrat_check.specs.Laws.{hinted, NamesClauses, AdditionsAreSteps, HintsNameClauses}
 
 no_fault : {A : Type 0} (f : A) → Some f ≡ None → ⊥
@@ -28,11 +27,6 @@ no_fault f e = cc
 
 abbrev AreSome : List Signed → Type 0
 AreSome numbers = All (λ (number : Signed). 1 ≤ number.size) numbers
-
-abbrev IsField : Field → Type 0
-IsField End = ⊤
-IsField (Number number) = 1 ≤ number.size
-IsField Broken = ⊤
 
 abbrev IsList : Option (List Signed × List Part) → Type 0
 IsList None = ⊤
@@ -44,25 +38,26 @@ IsLine broken = ⊤
 IsLine (addition id lits hints) = AreSome lits
 IsLine (deletion ids) = ⊤
 
-good_number : (number : Option Signed) → IsField (number_field number)
-good_number None = tt
-good_number (Some number) = elim (eqb_tells number.size 0) [
+good_more : (number : Signed) (more : Option (List Signed × List Part)) → 1 ≤ number.size → IsList more → IsList (option_map (λ (found : List Signed × List Part). (number ∷ found.0, found.1)) more)
+good_more number None here behind = tt
+good_more number (Some (numbers, left)) here behind = All-cons (λ (n : Signed). 1 ≤ n.size) number numbers here behind
+
+good_number : (number : Option Signed) (rest : List Part) (more : Option (List Signed × List Part)) → IsList more → IsList (list_from (number_field number) rest more)
+good_number None rest more behind = tt
+good_number (Some number) rest more behind = elim (eqb_tells number.size 0) [
   | inl t ↦ rw t.0 tt
-  | inr t ↦ let some = t.1 in rw t.0 (let le : 1 ≤ number.size = omega arith in le)
+  | inr t ↦ let some = t.1 in rw t.0 (good_more number more (omega arith) behind)
 ]
 
-good_field : (bytes : List ℕ) → IsField (field_of bytes)
-good_field bytes = elim (cases_Bool (bytes_eq bytes (48 ∷ []))) [ inl e ↦ rw e tt | inr e ↦ rw e (good_number (signed_of bytes)) ]
-
-good_from : (field : Field) (rest : List Part) (more : Option (List Signed × List Part)) → IsField field → IsList more → IsList (list_from field rest more)
-good_from End rest more here behind = λ k d lt. absurd (omega arith)
-good_from (Number number) rest None here behind = tt
-good_from (Number number) rest (Some (numbers, left)) here behind = All-cons (λ (n : Signed). 1 ≤ n.size) number numbers here behind
-good_from Broken rest more here behind = tt
+good_field : (bytes : List ℕ) (rest : List Part) (more : Option (List Signed × List Part)) → IsList more → IsList (list_from (field_of bytes) rest more)
+good_field bytes rest more behind = elim (cases_Bool (bytes_eq bytes (48 ∷ []))) [
+  | inl e ↦ rw e (All-nil (λ (n : Signed). 1 ≤ n.size))
+  | inr e ↦ rw e (good_number (signed_of bytes) rest more behind)
+]
 
 good_list : (fields : List Part) → IsList (list_of fields)
 good_list [] = tt
-good_list (field ∷ fields) = good_from (field_of field.bytes) fields (list_of fields) (good_field field.bytes) (good_list fields)
+good_list (field ∷ fields) = good_field field.bytes fields (list_of fields) (good_list fields)
 
 broken_or : (b : Bool) (ids : List Signed) → IsLine (if b then broken else deletion ids)
 broken_or true ids = tt

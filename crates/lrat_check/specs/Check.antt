@@ -1,6 +1,6 @@
 -- When a proof in the LRAT text format holds: line by line, against the clauses that are known by their ids.
 -- The format is that of Cruz-Filipe, Heule, Hunt, Kaufmann and Schneider-Kamp (Efficient certified RAT verification, 2017), without RAT.
-use Rattle.std.specs.Prelude.{ℕ, suc, zero, ◌+◌, ◌==◌, ◌||◌, Bool, false, not, if◌then◌else◌, List, [], ◌∷◌, length, map, Option, Some, None, Result, Ok, Err, nat_lt, slice_get}
+use Rattle.std.specs.Prelude.{ℕ, ◌+◌, ◌||◌, Bool, false, not, if◌then◌else◌, List, [], ◌∷◌, length, map, Option, Some, None, Result, Ok, Err, nat_lt}
 use Rattle.rsfq_ids.specs.Formula.{Clause, opposite}
 use Rattle.rsfq_ids.specs.declared.circuit.Cnf.{Cnf}
 use Rattle.proof_arena.specs.Step.{is_among, makes_false, reading, is_tautology}
@@ -12,24 +12,10 @@ use Rattle.dimacs_text.specs.declared.number.Signed.{Signed}
 use Rattle.lrat_check.specs.declared.fault.LratFault.{LratFault}
 use Rattle.lrat_check.specs.declared.fault.LratWhy.{LratWhy}
 use Rattle.lrat_check.specs.declared.fault.LratWhy.TheVariants as why
-use Rattle.lrat_check.specs.Lines.{Line, skipped, broken, addition, deletion, line_of}
+use Rattle.clause_table.specs.Found.{Found, given_at, with_clause, without_clause}
+use Rattle.lrat_lines.specs.Lines.{Line, skipped, broken, addition, deletion, line_of}
 
 -- ---- the clauses that are known
-
--- the clause of an id, if there is one
-abbrev pub Found : Type 0
-Found = ℕ → Option Clause
-
--- the clauses of a formula have the ids from 1 on
-abbrev pub given_at : List Clause → Found
-given_at clauses zero = None
-given_at clauses (suc place) = slice_get clauses place
-
-abbrev pub with_clause : Found → ℕ → Clause → Found
-with_clause found id clause other = if other == id then Some clause else found other
-
-abbrev pub without_clause : Found → ℕ → Found
-without_clause found id other = if other == id then None else found other
 
 -- the clauses that stand, the greatest id so far, and whether an empty clause was added
 pub record Known : Type 0 where

@@ -3,8 +3,9 @@ use Rattle.std.specs.Prelude.{◌≡◌, ◌<◌, ◌↔◌, ℕ, List, [], ◌�
 use Rattle.rsfq_ids.specs.Formula.{Clause}
 use Rattle.proof_arena.specs.Step.{StepHolds}
 use Rattle.dimacs_text.specs.declared.number.Signed.{Signed}
-use Rattle.lrat_check.specs.Check.{Found, Known, clause_of, added, after_line}
-use Rattle.lrat_check.specs.Lines.{addition, line_of}
+use Rattle.clause_table.specs.Found.{Found}
+use Rattle.lrat_check.specs.Check.{Known, clause_of, added, after_line}
+use Rattle.lrat_lines.specs.Lines.{addition, line_of}
 
 -- the clause that a hint of a text names; one with a hyphen names none
 abbrev pub hinted : Found → Signed → Option Clause

@@ -1,8 +1,4 @@
-pub mod Lines
 pub mod Check
-pub mod Forms
-pub mod Entries
-pub mod Held
 pub mod Tables
 pub mod Reached
 pub mod Grammar

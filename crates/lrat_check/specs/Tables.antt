@@ -1,7 +1,7 @@
 -- What a checker knows, and how large its table of marks is.
 use Rattle.std.specs.Prelude.{◌≤◌, ◌*◌, min, max, length}
 use Rattle.lrat_check.specs.Check.{Known}
-use Rattle.lrat_check.specs.Entries.{found_of, last_of}
+use Rattle.clause_table.specs.Entries.{found_of, last_of}
 use Rattle.lrat_check.specs.declared.check.Checker.{Checker}
 
 abbrev pub known_of : Checker → Known

@@ -6,13 +6,10 @@
 
 mod check;
 mod fault;
-mod field;
 mod laws;
-mod line;
 mod reach;
 mod report;
 mod run;
-mod table;
 #[cfg(test)]
 mod tests;
 mod words;

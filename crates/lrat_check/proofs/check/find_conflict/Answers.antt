@@ -3,7 +3,7 @@ use Rattle.proof_arena.specs.Step.{makes_false}
 use Rattle.proof_arena.specs.Table.{falses_of}
 use Rattle.dimacs_text.specs.declared.number.Signed.{Signed}
 use Rattle.lrat_check.specs.Check.{hints_fault, at_reading}
-use Rattle.lrat_check.specs.Entries.{found_of}
+use Rattle.clause_table.specs.Entries.{found_of}
 use Rattle.lrat_check.proofs.CheckSays.{hint_read, next_number}
 use Rattle.lrat_check.proofs.check.find_conflict.Goals as goal
 use Rattle.lrat_check.proofs.check.find_conflict.Goals.{in-Passed, in-Unit+in_ok-make_any_false-in-Unit}

@@ -1,7 +1,7 @@
 use Rattle.std.proofs.Common.{◌≡◌, drop}
 use Rattle.proof_arena.specs.Table.{falses_of}
 use Rattle.lrat_check.specs.Check.{hints_fault}
-use Rattle.lrat_check.specs.Entries.{found_of}
+use Rattle.clause_table.specs.Entries.{found_of}
 use Rattle.lrat_check.proofs.check.find_conflict.Given as goal
 
 abbrev pub invariant-loop-hint : goal.invariant-loop-hint

@@ -1,8 +1,9 @@
 use Rattle.std.proofs.Common.{◌≡◌, ◌∙◌, Bool, ℕ, ap, sym, refl, arith, Ok}
 use Rattle.std.proofs.lemmas.Result.{err_from_is_err_and}
 use Rattle.proof_arena.specs.Table.{falses_of}
-use Rattle.lrat_check.specs.Check.{clause_of, hints_fault, unless_why, added, with_clause, Known}
-use Rattle.lrat_check.specs.Entries.{found_of, last_of}
+use Rattle.clause_table.specs.Found.{with_clause}
+use Rattle.lrat_check.specs.Check.{clause_of, hints_fault, unless_why, added, Known}
+use Rattle.clause_table.specs.Entries.{found_of, last_of}
 use Rattle.lrat_check.specs.Tables.{known_of}
 use Rattle.lrat_check.proofs.CheckSays.{is_tautologous, is_judged, denied, told, added_as, none_of}
 use Rattle.lrat_check.proofs.check.Checker.add.Goals as goal

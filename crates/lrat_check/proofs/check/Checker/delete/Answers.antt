@@ -1,7 +1,8 @@
 use Rattle.std.proofs.Common.{◌∙◌, ◌+◌, ap, sym, drop, get_or, false}
 use Rattle.dimacs_text.specs.declared.number.Signed.{Signed}
-use Rattle.lrat_check.specs.Check.{Found, deleted}
-use Rattle.lrat_check.specs.Entries.{found_of}
+use Rattle.clause_table.specs.Found.{Found}
+use Rattle.lrat_check.specs.Check.{deleted}
+use Rattle.clause_table.specs.Entries.{found_of}
 use Rattle.lrat_check.proofs.CheckSays.{one_deleted, next_number}
 use Rattle.lrat_check.proofs.check.Checker.delete.Goals as goal
 

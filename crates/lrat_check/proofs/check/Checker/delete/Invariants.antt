@@ -1,6 +1,6 @@
 use Rattle.std.proofs.Common.{◌≡◌, drop}
 use Rattle.lrat_check.specs.Check.{deleted}
-use Rattle.lrat_check.specs.Entries.{found_of, last_of}
+use Rattle.clause_table.specs.Entries.{found_of, last_of}
 use Rattle.lrat_check.proofs.check.Checker.delete.Given as goal
 
 abbrev pub invariant-loop-id : goal.invariant-loop-id

@@ -1,0 +1,2 @@
+mod EntrySays
+pub mod GivenSays
