@@ -3,8 +3,8 @@ use Rattle.std.proofs.Common.{◌≡◌, ◌≢◌, ◌≤◌, ◌-◌, ◌==◌
 use Rattle.std.specs.Prelude.{nat_lt, ◌||◌}
 use Rattle.std.proofs.lemmas.Bool.{ltb-false, le-ltb, eqb-false, eqb-true}
 use Rattle.golden_aig.specs.declared.graph.And.{And}
-use Rattle.aiger_read.specs.declared.fault.AigerWhy.TheVariants as why
-use Rattle.aiger_read.specs.Reading.{◌>>=◌, fault, difference_at, and_at}
+use Rattle.aiger_parts.specs.declared.fault.AigerWhy.TheVariants as why
+use Rattle.aiger_parts.specs.Reading.{◌>>=◌, fault, difference_at, and_at}
 use Rattle.aiger_read.specs.Spelling.{BeginsWithAnd, AndsAreRead}
 use Rattle.aiger_read.proofs.WellFormed.{bind_ok, unless_ok, or_false, same_value, given}
 use Rattle.aiger_read.proofs.Groups.{differences}

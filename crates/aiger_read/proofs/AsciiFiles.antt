@@ -12,15 +12,15 @@ use Rattle.and_order.specs.Numbers.{HoldsOnce}
 use Rattle.and_order.specs.Listing.{IsDefined, IsListing, defined_by}
 use Rattle.and_order.specs.Renaming.{Renames}
 use Rattle.and_order.proofs.Lists.{get_behind, get_more}
-use Rattle.aiger_read.specs.declared.fault.Stop.{Stop}
-use Rattle.aiger_read.specs.declared.fault.AigerWhy.TheVariants as why
-use Rattle.aiger_read.specs.declared.header.Form.TheVariants as form
-use Rattle.aiger_read.specs.declared.header.Header.{Header}
+use Rattle.aiger_parts.specs.declared.fault.Stop.{Stop}
+use Rattle.aiger_parts.specs.declared.fault.AigerWhy.TheVariants as why
+use Rattle.aiger_parts.specs.declared.header.Form.TheVariants as form
+use Rattle.aiger_parts.specs.declared.header.Header.{Header}
 use Rattle.aiger_read.specs.declared.lines.Used.{Used}
 use Rattle.aiger_read.specs.declared.lines.Line.{Line}
 use Rattle.aiger_read.specs.declared.text.Text.{Text}
-use Rattle.aiger_read.specs.Header.{header_at, fits_form}
-use Rattle.aiger_read.specs.Symbols.{Entries, symbols_at}
+use Rattle.aiger_parts.specs.Header.{header_at, fits_form}
+use Rattle.aiger_parts.specs.Symbols.{Entries, symbols_at}
 use Rattle.aiger_read.specs.Lines.{is_in, lhs_of, more_at, input_at, output_at, and_line_at}
 use Rattle.aiger_read.specs.Text.{use_known_at, known_at, uses_of, and_of, listing_of, text_at, ListsAs, ListsInOrder}
 use Rattle.aiger_read.specs.Spelling.{WritesNumber}

@@ -7,13 +7,13 @@ use Rattle.std.proofs.lemmas.List.{append-nil}
 use Rattle.golden_aig.specs.declared.graph.Aig.{Aig}
 use Rattle.golden_aig.specs.declared.graph.And.{And}
 use Rattle.golden_aig.specs.Aig.{IsAig, IsAndAt, variables_of}
-use Rattle.aiger_read.specs.declared.fault.Stop.{Stop}
-use Rattle.aiger_read.specs.declared.fault.AigerWhy.TheVariants as why
-use Rattle.aiger_read.specs.declared.header.Form.TheVariants as form
-use Rattle.aiger_read.specs.declared.header.Header.{Header}
-use Rattle.aiger_read.specs.Reading.{◌>>=◌, fault, number_at, line_end_at, literal_at, and_at, many_at}
-use Rattle.aiger_read.specs.Header.{header_at, fits_form}
-use Rattle.aiger_read.specs.Symbols.{Entries, symbols_at}
+use Rattle.aiger_parts.specs.declared.fault.Stop.{Stop}
+use Rattle.aiger_parts.specs.declared.fault.AigerWhy.TheVariants as why
+use Rattle.aiger_parts.specs.declared.header.Form.TheVariants as form
+use Rattle.aiger_parts.specs.declared.header.Header.{Header}
+use Rattle.aiger_parts.specs.Reading.{◌>>=◌, fault, number_at, line_end_at, literal_at, and_at, many_at}
+use Rattle.aiger_parts.specs.Header.{header_at, fits_form}
+use Rattle.aiger_parts.specs.Symbols.{Entries, symbols_at}
 use Rattle.aiger_read.specs.Graph.{graph_at}
 use Rattle.aiger_read.specs.Spelling.{WritesNumber, WriteGroups, BeginsWithAnd, BeginsWithDifference}
 use Rattle.aiger_read.specs.Spelled.{in_lines, IsHeadLine, WritesDifference, WritesAnd, IsBinaryFile, AreSymbolLines, IsSymbolLine}

@@ -6,15 +6,15 @@ use Rattle.std.proofs.lemmas.Bool.{eqb-true}
 use Rattle.golden_aig.specs.declared.graph.Aig.{Aig}
 use Rattle.and_order.specs.declared.listing.Listing.{Listing}
 use Rattle.and_order.specs.Renaming.{IsRenaming, IsOrdered, IsOneGraph}
-use Rattle.aiger_read.specs.declared.fault.Stop.{Stop}
-use Rattle.aiger_read.specs.declared.fault.AigerFault.{AigerFault}
-use Rattle.aiger_read.specs.declared.fault.AigerWhy.TheVariants as why
-use Rattle.aiger_read.specs.declared.header.Form.{Form}
-use Rattle.aiger_read.specs.declared.header.Form.TheVariants as form
-use Rattle.aiger_read.specs.declared.header.Header.{Header}
+use Rattle.aiger_parts.specs.declared.fault.Stop.{Stop}
+use Rattle.aiger_parts.specs.declared.fault.AigerFault.{AigerFault}
+use Rattle.aiger_parts.specs.declared.fault.AigerWhy.TheVariants as why
+use Rattle.aiger_parts.specs.declared.header.Form.{Form}
+use Rattle.aiger_parts.specs.declared.header.Form.TheVariants as form
+use Rattle.aiger_parts.specs.declared.header.Header.{Header}
 use Rattle.aiger_read.specs.declared.text.Text.{Text}
-use Rattle.aiger_read.specs.Reading.{fault}
-use Rattle.aiger_read.specs.Header.{header_at, has_head, word_of, variables_at, spaces_in}
+use Rattle.aiger_parts.specs.Reading.{fault}
+use Rattle.aiger_parts.specs.Header.{header_at, has_head, word_of, variables_at, spaces_in}
 use Rattle.aiger_read.specs.Graph.{graph_at, IsRefusal}
 use Rattle.aiger_read.specs.Text.{text_at, listing_of, IsListRefusal, IsRingFault}
 use Rattle.aiger_read.specs.Both.{is_ascii, IsFileOf, SpellsNone, FilesAreSpelled}

@@ -5,18 +5,18 @@ use Rattle.golden_aig.specs.declared.graph.Aig.{Aig}
 use Rattle.golden_aig.specs.declared.graph.And.{And}
 use Rattle.and_order.specs.Listing.{defined_by}
 use Rattle.and_order.specs.Ring.{IsRing}
-use Rattle.aiger_read.specs.declared.fault.AigerWhy.{AigerWhy}
-use Rattle.aiger_read.specs.declared.fault.AigerWhy.TheVariants as why
-use Rattle.aiger_read.specs.declared.fault.AigerFault.{AigerFault}
-use Rattle.aiger_read.specs.declared.fault.Stop.{Stop}
-use Rattle.aiger_read.specs.declared.header.Form.TheVariants as form
-use Rattle.aiger_read.specs.declared.header.Header.{Header}
+use Rattle.aiger_parts.specs.declared.fault.AigerWhy.{AigerWhy}
+use Rattle.aiger_parts.specs.declared.fault.AigerWhy.TheVariants as why
+use Rattle.aiger_parts.specs.declared.fault.AigerFault.{AigerFault}
+use Rattle.aiger_parts.specs.declared.fault.Stop.{Stop}
+use Rattle.aiger_parts.specs.declared.header.Form.TheVariants as form
+use Rattle.aiger_parts.specs.declared.header.Header.{Header}
 use Rattle.aiger_read.specs.declared.lines.Used.{Used}
 use Rattle.aiger_read.specs.declared.lines.Line.{Line}
 use Rattle.aiger_read.specs.declared.text.Text.{Text}
-use Rattle.aiger_read.specs.Reading.{◌>>=◌, literal_at, and_at, many_at}
-use Rattle.aiger_read.specs.Header.{header_at}
-use Rattle.aiger_read.specs.Symbols.{Entries, symbols_at}
+use Rattle.aiger_parts.specs.Reading.{◌>>=◌, literal_at, and_at, many_at}
+use Rattle.aiger_parts.specs.Header.{header_at}
+use Rattle.aiger_parts.specs.Symbols.{Entries, symbols_at}
 use Rattle.aiger_read.specs.Graph.{graph_at}
 use Rattle.aiger_read.specs.Lines.{lhs_of, more_at, input_at, output_at, and_line_at}
 use Rattle.aiger_read.specs.Text.{known_at, uses_of, and_of, text_at, IsRingFault}

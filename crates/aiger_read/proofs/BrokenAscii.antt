@@ -5,14 +5,14 @@ use Rattle.std.specs.List.{AllZip}
 use Rattle.std.proofs.lemmas.Bool.{ltb-true, leb-true}
 use Rattle.golden_aig.specs.declared.graph.And.{And}
 use Rattle.and_order.specs.Listing.{IsDefinition}
-use Rattle.aiger_read.specs.declared.fault.AigerWhy.{AigerWhy}
-use Rattle.aiger_read.specs.declared.fault.AigerWhy.TheVariants as why
-use Rattle.aiger_read.specs.declared.fault.Stop.{Stop}
-use Rattle.aiger_read.specs.declared.header.Form.TheVariants as form
-use Rattle.aiger_read.specs.declared.header.Header.{Header}
+use Rattle.aiger_parts.specs.declared.fault.AigerWhy.{AigerWhy}
+use Rattle.aiger_parts.specs.declared.fault.AigerWhy.TheVariants as why
+use Rattle.aiger_parts.specs.declared.fault.Stop.{Stop}
+use Rattle.aiger_parts.specs.declared.header.Form.TheVariants as form
+use Rattle.aiger_parts.specs.declared.header.Header.{Header}
 use Rattle.aiger_read.specs.declared.lines.Used.{Used}
 use Rattle.aiger_read.specs.declared.lines.Line.{Line}
-use Rattle.aiger_read.specs.Reading.{◌>>=◌, fault, number_at, line_end_at}
+use Rattle.aiger_parts.specs.Reading.{◌>>=◌, fault, number_at, line_end_at}
 use Rattle.aiger_read.specs.Lines.{is_in, is_out, lhs_of, more_at, start_at, gap_at, definition_at, use_at, input_at, output_at, and_line_at}
 use Rattle.aiger_read.specs.Text.{and_of}
 use Rattle.aiger_read.specs.Spelling.{WritesNumber}

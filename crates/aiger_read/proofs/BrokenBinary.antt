@@ -6,12 +6,12 @@ use Rattle.std.proofs.lemmas.Bool.{ltb-true, ltb-false, eqb-true, eqb-false}
 use Rattle.std.proofs.lemmas.Option.{slice_get_within, get_or_from_slice_get}
 use Rattle.golden_aig.specs.declared.graph.And.{And}
 use Rattle.golden_aig.specs.Aig.{IsAndAt}
-use Rattle.aiger_read.specs.declared.fault.AigerWhy.{AigerWhy}
-use Rattle.aiger_read.specs.declared.fault.AigerWhy.TheVariants as why
-use Rattle.aiger_read.specs.declared.fault.Stop.{Stop}
-use Rattle.aiger_read.specs.declared.header.Form.TheVariants as form
-use Rattle.aiger_read.specs.declared.header.Header.{Header}
-use Rattle.aiger_read.specs.Reading.{◌>>=◌, fault, number_at, line_end_at, literal_at, groups_at, is_cut, difference_or, difference_at, and_at, many_at}
+use Rattle.aiger_parts.specs.declared.fault.AigerWhy.{AigerWhy}
+use Rattle.aiger_parts.specs.declared.fault.AigerWhy.TheVariants as why
+use Rattle.aiger_parts.specs.declared.fault.Stop.{Stop}
+use Rattle.aiger_parts.specs.declared.header.Form.TheVariants as form
+use Rattle.aiger_parts.specs.declared.header.Header.{Header}
+use Rattle.aiger_parts.specs.Reading.{◌>>=◌, fault, number_at, line_end_at, literal_at, groups_at, is_cut, difference_or, difference_at, and_at, many_at}
 use Rattle.aiger_read.specs.Spelling.{WriteGroups, BeginsWithDifference}
 use Rattle.aiger_read.specs.Spelled.{IsHeadLine}
 use Rattle.aiger_read.specs.Broken.{used_literal, AreHigh, BreaksDifference, BreaksSecond, BreaksAnd, BinaryFront, BreaksInOutputs, BreaksInAnds}

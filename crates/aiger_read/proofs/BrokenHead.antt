@@ -3,14 +3,14 @@ use Rattle.std.proofs.Common.{◌≡◌, ◌∙◌, inl, inr, ◌<◌, ◌≤◌
 use Rattle.std.specs.Prelude.{nat_lt, nat_le, nat_eq, replicate}
 use Rattle.std.specs.List.{starts_with}
 use Rattle.std.proofs.lemmas.Bool.{ltb-true, eqb-true, eqb-false, leb-true, le-leb, eq-eqb}
-use Rattle.aiger_read.specs.declared.fault.AigerWhy.{AigerWhy}
-use Rattle.aiger_read.specs.declared.fault.AigerWhy.TheVariants as why
-use Rattle.aiger_read.specs.declared.fault.Stop.{Stop}
-use Rattle.aiger_read.specs.declared.header.Form.{Form}
-use Rattle.aiger_read.specs.declared.header.Form.TheVariants as form
-use Rattle.aiger_read.specs.declared.header.Header.{Header}
-use Rattle.aiger_read.specs.Reading.{◌>>=◌, fault, number_at, field_at}
-use Rattle.aiger_read.specs.Header.{spaces_in, word_of, has_head, fits_form, zeros_at, variables_at, latches_at, counts_at, header_at}
+use Rattle.aiger_parts.specs.declared.fault.AigerWhy.{AigerWhy}
+use Rattle.aiger_parts.specs.declared.fault.AigerWhy.TheVariants as why
+use Rattle.aiger_parts.specs.declared.fault.Stop.{Stop}
+use Rattle.aiger_parts.specs.declared.header.Form.{Form}
+use Rattle.aiger_parts.specs.declared.header.Form.TheVariants as form
+use Rattle.aiger_parts.specs.declared.header.Header.{Header}
+use Rattle.aiger_parts.specs.Reading.{◌>>=◌, fault, number_at, field_at}
+use Rattle.aiger_parts.specs.Header.{spaces_in, word_of, has_head, fits_form, zeros_at, variables_at, latches_at, counts_at, header_at}
 use Rattle.aiger_read.specs.Broken.{Kind, highest, any_count, latch_count, further_count, HasHead, FitsForm, head_kinds, BreaksHead, BreaksFields}
 use Rattle.aiger_read.proofs.WellFormed.{given, same_value, bind_ok, when_ok}
 use Rattle.aiger_read.proofs.FileLines.{written}

@@ -1,10 +1,10 @@
 -- Lines that break, from what a reader answers.
 use Rattle.std.proofs.Common.{◌≡◌, ◌≢◌, ◌⊎◌, ◌∙◌, inl, inr, ◌<◌, ◌≤◌, ◌+◌, ◌-◌, ◌==◌, ℕ, Bool, true, false, cond, zero, suc, refl, ap, sym, subst, arith, List, [], ◌∷◌, ◌++◌, length, length-append, take, drop, Option, None, Some, Result, Ok, Err}
 use Rattle.std.proofs.lemmas.Bool.{eqb-true, eqb-false}
-use Rattle.aiger_read.specs.declared.fault.AigerWhy.{AigerWhy}
-use Rattle.aiger_read.specs.declared.fault.AigerWhy.TheVariants as why
-use Rattle.aiger_read.specs.declared.fault.Stop.{Stop}
-use Rattle.aiger_read.specs.Reading.{◌>>=◌, fault, field_length, number_of, number_or, number_at, line_end_at, many_at}
+use Rattle.aiger_parts.specs.declared.fault.AigerWhy.{AigerWhy}
+use Rattle.aiger_parts.specs.declared.fault.AigerWhy.TheVariants as why
+use Rattle.aiger_parts.specs.declared.fault.Stop.{Stop}
+use Rattle.aiger_parts.specs.Reading.{◌>>=◌, fault, field_length, number_of, number_or, number_at, line_end_at, many_at}
 use Rattle.aiger_read.specs.Lines.{more_at, gap_at}
 use Rattle.aiger_read.specs.Spelling.{WritesNumber}
 use Rattle.aiger_read.specs.Broken.{Kind, IsWrong, BreaksField, BeginsWithField, EndsLine, BreaksFields, BreaksLine}

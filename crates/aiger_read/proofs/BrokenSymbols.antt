@@ -3,11 +3,11 @@ use Rattle.std.proofs.Common.{◌≡◌, ◌≢◌, ◌∙◌, inl, inr, ◌<◌
 use Rattle.std.specs.Prelude.{replicate, slice_set}
 use Rattle.std.specs.Str.{bytes_eq}
 use Rattle.std.proofs.lemmas.List.{length-replicate}
-use Rattle.aiger_read.specs.declared.fault.AigerWhy.{AigerWhy}
-use Rattle.aiger_read.specs.declared.fault.AigerWhy.TheVariants as why
-use Rattle.aiger_read.specs.declared.fault.Stop.{Stop}
-use Rattle.aiger_read.specs.Reading.{◌>>=◌, fault}
-use Rattle.aiger_read.specs.Symbols.{Entries, line_length, with_line, line_or, line_at, ends_symbols, symbols_at}
+use Rattle.aiger_parts.specs.declared.fault.AigerWhy.{AigerWhy}
+use Rattle.aiger_parts.specs.declared.fault.AigerWhy.TheVariants as why
+use Rattle.aiger_parts.specs.declared.fault.Stop.{Stop}
+use Rattle.aiger_parts.specs.Reading.{◌>>=◌, fault}
+use Rattle.aiger_parts.specs.Symbols.{Entries, line_length, with_line, line_or, line_at, ends_symbols, symbols_at}
 use Rattle.aiger_read.specs.Spelled.{IsSymbolLine}
 use Rattle.aiger_read.specs.Broken.{IsFree, BreaksSymbols}
 use Rattle.aiger_read.proofs.WellFormed as formed

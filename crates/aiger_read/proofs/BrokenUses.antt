@@ -6,15 +6,15 @@ use Rattle.std.proofs.lemmas.Option.{same_Some, slice_get_within}
 use Rattle.golden_aig.specs.declared.graph.And.{And}
 use Rattle.and_order.specs.Listing.{IsDefined, defined_by}
 use Rattle.and_order.proofs.Lists.{get_behind, get_more}
-use Rattle.aiger_read.specs.declared.fault.AigerWhy.{AigerWhy}
-use Rattle.aiger_read.specs.declared.fault.AigerWhy.TheVariants as why
-use Rattle.aiger_read.specs.declared.fault.Stop.{Stop}
-use Rattle.aiger_read.specs.declared.header.Form.TheVariants as form
-use Rattle.aiger_read.specs.declared.header.Header.{Header}
+use Rattle.aiger_parts.specs.declared.fault.AigerWhy.{AigerWhy}
+use Rattle.aiger_parts.specs.declared.fault.AigerWhy.TheVariants as why
+use Rattle.aiger_parts.specs.declared.fault.Stop.{Stop}
+use Rattle.aiger_parts.specs.declared.header.Form.TheVariants as form
+use Rattle.aiger_parts.specs.declared.header.Header.{Header}
 use Rattle.aiger_read.specs.declared.lines.Used.{Used}
 use Rattle.aiger_read.specs.declared.lines.Line.{Line}
-use Rattle.aiger_read.specs.Reading.{◌>>=◌, fault, number_at, line_end_at}
-use Rattle.aiger_read.specs.Symbols.{Entries, symbols_at}
+use Rattle.aiger_parts.specs.Reading.{◌>>=◌, fault, number_at, line_end_at}
+use Rattle.aiger_parts.specs.Symbols.{Entries, symbols_at}
 use Rattle.aiger_read.specs.Lines.{lhs_of, more_at, start_at, gap_at, definition_at, use_at, input_at, output_at, and_line_at}
 use Rattle.aiger_read.specs.Text.{is_known, use_known_at, known_at, uses_of, and_of}
 use Rattle.aiger_read.specs.Spelled.{in_fields, IsAndLine}

@@ -1,11 +1,11 @@
 -- A file that breaks does so for no want of memory.
 use Rattle.std.proofs.Common.{◌≡◌, ◌≢◌, ◌∙◌, inl, inr, ◌+◌, ◌-◌, ◌*◌, ℕ, Bool, true, false, refl, sym, List, [], ◌∷◌, length}
 use Rattle.golden_aig.specs.declared.graph.And.{And}
-use Rattle.aiger_read.specs.declared.fault.AigerWhy.{AigerWhy}
-use Rattle.aiger_read.specs.declared.fault.AigerWhy.TheVariants as why
-use Rattle.aiger_read.specs.declared.header.Form.{Form}
-use Rattle.aiger_read.specs.declared.header.Form.TheVariants as form
-use Rattle.aiger_read.specs.Header.{spaces_in}
+use Rattle.aiger_parts.specs.declared.fault.AigerWhy.{AigerWhy}
+use Rattle.aiger_parts.specs.declared.fault.AigerWhy.TheVariants as why
+use Rattle.aiger_parts.specs.declared.header.Form.{Form}
+use Rattle.aiger_parts.specs.declared.header.Form.TheVariants as form
+use Rattle.aiger_parts.specs.Header.{spaces_in}
 use Rattle.aiger_read.specs.Both.{is_ascii}
 use Rattle.and_order.specs.Listing.{defined_by}
 use Rattle.aiger_read.specs.Broken.{head_kinds, Kind, highest, any_count, latch_count, further_count, new_literal, used_literal, IsWrong, BreaksField, BreaksFields, BreaksLine, BreaksDifference, BreaksSecond, BreaksAnd, BreaksHead, MissesOperand, BreaksAscii, BreaksBinary, Breaks}

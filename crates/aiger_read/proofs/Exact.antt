@@ -1,10 +1,10 @@
 -- Files that break are faulty there.
 use Rattle.std.proofs.Common.{◌≡◌, ◌≢◌, ◌⊎◌, ◌∙◌, inl, inr, ◌-◌, ℕ, Bool, true, false, refl, ap, sym, List, length, Result, Ok}
 use Rattle.golden_aig.specs.declared.graph.Aig.{Aig}
-use Rattle.aiger_read.specs.declared.fault.AigerWhy.{AigerWhy}
-use Rattle.aiger_read.specs.declared.fault.AigerWhy.TheVariants as why
-use Rattle.aiger_read.specs.declared.fault.Stop.{Stop}
-use Rattle.aiger_read.specs.declared.header.Form.TheVariants as form
+use Rattle.aiger_parts.specs.declared.fault.AigerWhy.{AigerWhy}
+use Rattle.aiger_parts.specs.declared.fault.AigerWhy.TheVariants as why
+use Rattle.aiger_parts.specs.declared.fault.Stop.{Stop}
+use Rattle.aiger_parts.specs.declared.header.Form.TheVariants as form
 use Rattle.aiger_read.specs.declared.text.Text.{Text}
 use Rattle.aiger_read.proofs.WellFormed.{same_value}
 use Rattle.aiger_read.proofs.Both.{none_in_lines, none_in_bytes}

@@ -6,7 +6,7 @@ use Rattle.std.specs.Str.Parse.{AllDigits}
 use Rattle.std.proofs.lemmas.Bool.{ne_eqb}
 use Rattle.std.proofs.lemmas.Str.Parse.{digit_from_value}
 use Rattle.std.proofs.lemmas.List.{take-append-drop}
-use Rattle.aiger_read.specs.Reading.{ends_field, field_length, number_of, number_or, number_at, field_at}
+use Rattle.aiger_parts.specs.Reading.{ends_field, field_length, number_of, number_or, number_at, field_at}
 use Rattle.aiger_read.specs.Spelling.{WritesNumber}
 use Rattle.aiger_read.proofs.WellFormed.{given, same_value, bind_ok}
 use Rattle.aiger_read.proofs.Numbers.{numbers}

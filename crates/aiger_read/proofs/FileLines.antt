@@ -4,9 +4,9 @@ use Rattle.std.specs.Prelude.{◌||◌}
 use Rattle.std.specs.List.{list_any}
 use Rattle.std.proofs.lemmas.List.{append_cancel_right}
 use Rattle.std.proofs.lemmas.Bool.{eqb-true}
-use Rattle.aiger_read.specs.declared.fault.AigerWhy.TheVariants as why
-use Rattle.aiger_read.specs.Reading.{fault, line_end_at}
-use Rattle.aiger_read.specs.Symbols.{line_length}
+use Rattle.aiger_parts.specs.declared.fault.AigerWhy.TheVariants as why
+use Rattle.aiger_parts.specs.Reading.{fault, line_end_at}
+use Rattle.aiger_parts.specs.Symbols.{line_length}
 use Rattle.aiger_read.specs.Spelled.{in_lines}
 use Rattle.aiger_read.proofs.WellFormed.{given, same_value}
 

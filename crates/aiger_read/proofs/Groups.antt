@@ -3,9 +3,9 @@ use Rattle.std.proofs.Common.{◌≡◌, ◌∙◌, ◌<◌, ◌≤◌, ◌+◌,
 use Rattle.std.specs.Prelude.{nat_lt}
 use Rattle.std.specs.Result.{result_ok}
 use Rattle.std.proofs.lemmas.Bool.{ltb-true, ltb-false, lt-ltb, le-ltb}
-use Rattle.aiger_read.specs.declared.fault.Stop.{Stop}
-use Rattle.aiger_read.specs.declared.fault.AigerWhy.TheVariants as why
-use Rattle.aiger_read.specs.Reading.{fault, groups_at, with_low, is_cut, difference_or, difference_at}
+use Rattle.aiger_parts.specs.declared.fault.Stop.{Stop}
+use Rattle.aiger_parts.specs.declared.fault.AigerWhy.TheVariants as why
+use Rattle.aiger_parts.specs.Reading.{fault, groups_at, with_low, is_cut, difference_or, difference_at}
 use Rattle.aiger_read.specs.Spelling.{WriteGroups, BeginsWithDifference, DifferencesAreRead}
 
 pub more_groups : (b high n : ℕ) (front : List ℕ) → 128 ≤ b → n + 128 ≡ b + 128 * high → WriteGroups front high → WriteGroups (b ∷ front) n

@@ -8,12 +8,12 @@ use Rattle.std.proofs.lemmas.Bool.{eqb-true, ne_eqb, ltb-false, le-ltb, leb-true
 use Rattle.std.proofs.lemmas.List.{take-append-drop}
 use Rattle.std.proofs.lemmas.Slice.Eq.{bytes_eq-Decides}
 use Rattle.std.proofs.lemmas.Str.Parse.{digit_from_value}
-use Rattle.aiger_read.specs.declared.fault.AigerWhy.TheVariants as why
-use Rattle.aiger_read.specs.declared.header.Form.{Form}
-use Rattle.aiger_read.specs.declared.header.Form.TheVariants as form
-use Rattle.aiger_read.specs.declared.header.Header.{Header}
-use Rattle.aiger_read.specs.Reading.{◌>>=◌, fault, field_length, field_at}
-use Rattle.aiger_read.specs.Header.{spaces_in, word_of, has_head, fits_form, zeros_at, variables_at, latches_at, counts_at, header_at}
+use Rattle.aiger_parts.specs.declared.fault.AigerWhy.TheVariants as why
+use Rattle.aiger_parts.specs.declared.header.Form.{Form}
+use Rattle.aiger_parts.specs.declared.header.Form.TheVariants as form
+use Rattle.aiger_parts.specs.declared.header.Header.{Header}
+use Rattle.aiger_parts.specs.Reading.{◌>>=◌, fault, field_length, field_at}
+use Rattle.aiger_parts.specs.Header.{spaces_in, word_of, has_head, fits_form, zeros_at, variables_at, latches_at, counts_at, header_at}
 use Rattle.aiger_read.specs.Spelling.{WritesNumber}
 use Rattle.aiger_read.specs.Spelled.{in_fields, IsHeadLine}
 use Rattle.aiger_read.proofs.WellFormed.{given, same_value, bind_ok, unless_ok, when_ok}

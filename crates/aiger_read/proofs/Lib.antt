@@ -1,6 +1,3 @@
-pub mod Loop
-pub mod Digits
-pub mod SymbolLines
 pub mod WellFormed
 pub mod Numbers
 pub mod Faults

@@ -8,15 +8,15 @@ use Rattle.golden_aig.specs.declared.graph.And.{And}
 use Rattle.and_order.specs.Numbers.{HoldsOnce}
 use Rattle.and_order.specs.Listing.{IsDefinition, IsDefined, IsListing, defined_by}
 use Rattle.and_order.proofs.Lists.{get_cases}
-use Rattle.aiger_read.specs.declared.fault.Stop.{Stop}
-use Rattle.aiger_read.specs.declared.fault.AigerWhy.TheVariants as why
-use Rattle.aiger_read.specs.declared.header.Form.TheVariants as form
+use Rattle.aiger_parts.specs.declared.fault.Stop.{Stop}
+use Rattle.aiger_parts.specs.declared.fault.AigerWhy.TheVariants as why
+use Rattle.aiger_parts.specs.declared.header.Form.TheVariants as form
 use Rattle.aiger_read.specs.declared.lines.Used.{Used}
 use Rattle.aiger_read.specs.declared.lines.Line.{Line}
 use Rattle.aiger_read.specs.declared.text.Text.{Text}
-use Rattle.aiger_read.specs.Reading.{◌>>=◌, fault, number_at, line_end_at}
-use Rattle.aiger_read.specs.Header.{header_at}
-use Rattle.aiger_read.specs.Symbols.{symbols_at}
+use Rattle.aiger_parts.specs.Reading.{◌>>=◌, fault, number_at, line_end_at}
+use Rattle.aiger_parts.specs.Header.{header_at}
+use Rattle.aiger_parts.specs.Symbols.{symbols_at}
 use Rattle.aiger_read.specs.Lines.{is_in, is_out, lhs_of, more_at, start_at, gap_at, definition_at, use_at, input_at, output_at, and_line_at}
 use Rattle.aiger_read.specs.Text.{use_known_at, known_at, uses_of, and_of, listing_of, text_at}
 use Rattle.aiger_read.proofs.WellFormed.{bind_ok, unless_ok, or_false, same_value, header_ok, symbols_ok}

@@ -4,7 +4,7 @@ use Rattle.std.specs.Prelude.{slice_get, slice_set, replicate, ◌||◌}
 use Rattle.std.proofs.lemmas.Bool.{eqb-true, eqb-false, eq-eqb, ne_eqb, le-ltb}
 use Rattle.std.proofs.lemmas.List.{length-replicate}
 use Rattle.std.proofs.lemmas.Option.{same_Some}
-use Rattle.aiger_read.specs.Reading.{number_at}
+use Rattle.aiger_parts.specs.Reading.{number_at}
 use Rattle.aiger_read.specs.Lines.{is_in, is_out, definition_at, AreMarks}
 
 in_more : (xs : List ℕ) (y z : ℕ) → is_in (xs ++ y ∷ []) z ≡ (is_in xs z || (y == z))

@@ -1,7 +1,7 @@
 -- Reading many of one kind, each after those before it.
 use Rattle.std.proofs.Common.{◌≡◌, ◌∙◌, ◌-◌, ◌+◌, ◌<◌, ◌≤◌, ℕ, suc, ap, arith, List, [], ◌∷◌, ◌++◌, Result, Ok, Err}
-use Rattle.aiger_read.specs.declared.fault.Stop.{Stop}
-use Rattle.aiger_read.specs.Reading.{◌>>=◌}
+use Rattle.aiger_parts.specs.declared.fault.Stop.{Stop}
+use Rattle.aiger_parts.specs.Reading.{◌>>=◌}
 use Rattle.aiger_read.specs.Lines.{more_at}
 
 module _ {A : Type 0} (one : List A → List ℕ → Result (A × List ℕ) Stop) where

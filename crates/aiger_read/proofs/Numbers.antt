@@ -8,7 +8,7 @@ use Rattle.std.proofs.lemmas.Bool.{ltb-true, lt-ltb}
 use Rattle.std.proofs.lemmas.Bool.Decides.{nat_tests}
 use Rattle.std.proofs.lemmas.Str.{digit_value_digit}
 use Rattle.std.proofs.lemmas.Str.Parse.{digit_from_value}
-use Rattle.aiger_read.specs.Reading.{with_digit, number_from, number_of}
+use Rattle.aiger_parts.specs.Reading.{with_digit, number_from, number_of}
 use Rattle.aiger_read.specs.Spelling.{NumbersAreRead}
 
 some_value : (v w : ℕ) → Some v ≡ Some w → v ≡ w

@@ -6,15 +6,15 @@ use Rattle.std.proofs.lemmas.List.{append-nil}
 use Rattle.golden_aig.specs.declared.graph.And.{And}
 use Rattle.and_order.specs.Listing.{defined_by}
 use Rattle.and_order.proofs.Lists.{get_more}
-use Rattle.aiger_read.specs.declared.fault.AigerWhy.{AigerWhy}
-use Rattle.aiger_read.specs.declared.fault.Stop.{Stop}
-use Rattle.aiger_read.specs.declared.header.Form.TheVariants as form
-use Rattle.aiger_read.specs.declared.header.Header.{Header}
+use Rattle.aiger_parts.specs.declared.fault.AigerWhy.{AigerWhy}
+use Rattle.aiger_parts.specs.declared.fault.Stop.{Stop}
+use Rattle.aiger_parts.specs.declared.header.Form.TheVariants as form
+use Rattle.aiger_parts.specs.declared.header.Header.{Header}
 use Rattle.aiger_read.specs.declared.lines.Used.{Used}
 use Rattle.aiger_read.specs.declared.lines.Line.{Line}
-use Rattle.aiger_read.specs.Reading.{◌>>=◌, line_end_at}
-use Rattle.aiger_read.specs.Header.{header_at}
-use Rattle.aiger_read.specs.Symbols.{symbols_at}
+use Rattle.aiger_parts.specs.Reading.{◌>>=◌, line_end_at}
+use Rattle.aiger_parts.specs.Header.{header_at}
+use Rattle.aiger_parts.specs.Symbols.{symbols_at}
 use Rattle.aiger_read.specs.Lines.{lhs_of, more_at, gap_at, definition_at, use_at, input_at, output_at, and_line_at}
 use Rattle.aiger_read.specs.Text.{and_of, text_at}
 use Rattle.aiger_read.specs.Spelling.{WritesNumber}

@@ -5,14 +5,14 @@ use Rattle.std.proofs.lemmas.Bool.{ltb-true, ltb-false, lt-ltb, le-ltb, eq-eqb}
 use Rattle.std.proofs.lemmas.Option.{slice_get-get_or}
 use Rattle.golden_aig.specs.declared.graph.And.{And}
 use Rattle.golden_aig.specs.Aig.{IsAndAt}
-use Rattle.aiger_read.specs.declared.fault.AigerWhy.{AigerWhy}
-use Rattle.aiger_read.specs.declared.fault.AigerWhy.TheVariants as why
-use Rattle.aiger_read.specs.declared.fault.Stop.{Stop}
-use Rattle.aiger_read.specs.declared.header.Form.TheVariants as form
-use Rattle.aiger_read.specs.declared.header.Header.{Header}
-use Rattle.aiger_read.specs.Reading.{◌>>=◌, fault, number_at, line_end_at, literal_at, groups_at, is_cut, difference_at, and_at, many_at}
-use Rattle.aiger_read.specs.Header.{header_at}
-use Rattle.aiger_read.specs.Symbols.{symbols_at}
+use Rattle.aiger_parts.specs.declared.fault.AigerWhy.{AigerWhy}
+use Rattle.aiger_parts.specs.declared.fault.AigerWhy.TheVariants as why
+use Rattle.aiger_parts.specs.declared.fault.Stop.{Stop}
+use Rattle.aiger_parts.specs.declared.header.Form.TheVariants as form
+use Rattle.aiger_parts.specs.declared.header.Header.{Header}
+use Rattle.aiger_parts.specs.Reading.{◌>>=◌, fault, number_at, line_end_at, literal_at, groups_at, is_cut, difference_at, and_at, many_at}
+use Rattle.aiger_parts.specs.Header.{header_at}
+use Rattle.aiger_parts.specs.Symbols.{symbols_at}
 use Rattle.aiger_read.specs.Graph.{graph_at}
 use Rattle.aiger_read.specs.Spelling.{WriteGroups, BeginsWithDifference}
 use Rattle.aiger_read.specs.Broken.{used_literal, IsWrong, BreaksFields, BreaksLine, AreHigh, BreaksDifference, BreaksSecond, BreaksAnd, BinaryFront, BreaksInOutputs, BreaksInAnds, BreaksInBinarySymbols, BreaksBinary}

@@ -3,11 +3,11 @@ use Rattle.std.proofs.Common.{◌≡◌, ◌≢◌, ◌∙◌, inl, inr, ◌<◌
 use Rattle.std.specs.Prelude.{nat_lt}
 use Rattle.std.proofs.lemmas.Bool.{ltb-true, ltb-false, lt-ltb, ne_eqb}
 use Rattle.and_order.specs.Listing.{IsDefinition}
-use Rattle.aiger_read.specs.declared.fault.AigerWhy.{AigerWhy}
-use Rattle.aiger_read.specs.declared.fault.AigerWhy.TheVariants as why
-use Rattle.aiger_read.specs.declared.fault.Stop.{Stop}
+use Rattle.aiger_parts.specs.declared.fault.AigerWhy.{AigerWhy}
+use Rattle.aiger_parts.specs.declared.fault.AigerWhy.TheVariants as why
+use Rattle.aiger_parts.specs.declared.fault.Stop.{Stop}
 use Rattle.aiger_read.specs.declared.lines.Used.{Used}
-use Rattle.aiger_read.specs.Reading.{◌>>=◌, fault, field_length, number_of, number_or, number_at, line_end_at, many_at}
+use Rattle.aiger_parts.specs.Reading.{◌>>=◌, fault, field_length, number_of, number_or, number_at, line_end_at, many_at}
 use Rattle.aiger_read.specs.Lines.{is_in, is_out, start_at, gap_at, more_at, definition_at, use_at}
 use Rattle.aiger_read.specs.Spelling.{WritesNumber}
 use Rattle.aiger_read.specs.Broken.{Kind, new_literal, used_literal, IsWrong, BreaksField, BeginsWithField, EndsLine, BreaksFields, BreaksLine}

@@ -3,10 +3,10 @@ use Rattle.std.proofs.Common.{◌≡◌, ◌≢◌, ◌⊎◌, ◌∙◌, inl, i
 use Rattle.std.specs.Prelude.{replicate}
 use Rattle.std.specs.Str.{bytes_eq}
 use Rattle.std.proofs.lemmas.Slice.Eq.{bytes_eq-Decides}
-use Rattle.aiger_read.specs.declared.fault.AigerWhy.{AigerWhy}
-use Rattle.aiger_read.specs.declared.fault.AigerWhy.TheVariants as why
-use Rattle.aiger_read.specs.Reading.{fault}
-use Rattle.aiger_read.specs.Symbols.{Entries, line_length, with_line, line_at, ends_symbols, symbols_at}
+use Rattle.aiger_parts.specs.declared.fault.AigerWhy.{AigerWhy}
+use Rattle.aiger_parts.specs.declared.fault.AigerWhy.TheVariants as why
+use Rattle.aiger_parts.specs.Reading.{fault}
+use Rattle.aiger_parts.specs.Symbols.{Entries, line_length, with_line, line_at, ends_symbols, symbols_at}
 use Rattle.aiger_read.specs.Spelled.{IsSymbolLine}
 use Rattle.aiger_read.specs.Broken.{IsFree, AreLines, BreaksSymbols, HasSymbols}
 use Rattle.aiger_read.proofs.WellFormed.{given}

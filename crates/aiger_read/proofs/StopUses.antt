@@ -6,15 +6,15 @@ use Rattle.and_order.specs.Listing.{IsDefined, defined_by}
 use Rattle.and_order.specs.Ring.{IsRing}
 use Rattle.and_order.proofs.Lists.{get_behind}
 use Rattle.and_order.proofs.Renamings.{no_graph}
-use Rattle.aiger_read.specs.declared.fault.AigerWhy.{AigerWhy}
-use Rattle.aiger_read.specs.declared.fault.AigerWhy.TheVariants as why
-use Rattle.aiger_read.specs.declared.fault.Stop.{Stop}
-use Rattle.aiger_read.specs.declared.header.Header.{Header}
+use Rattle.aiger_parts.specs.declared.fault.AigerWhy.{AigerWhy}
+use Rattle.aiger_parts.specs.declared.fault.AigerWhy.TheVariants as why
+use Rattle.aiger_parts.specs.declared.fault.Stop.{Stop}
+use Rattle.aiger_parts.specs.declared.header.Header.{Header}
 use Rattle.aiger_read.specs.declared.lines.Used.{Used}
 use Rattle.aiger_read.specs.declared.lines.Line.{Line}
 use Rattle.aiger_read.specs.declared.text.Text.{Text}
-use Rattle.aiger_read.specs.Reading.{number_at}
-use Rattle.aiger_read.specs.Symbols.{Entries, symbols_at}
+use Rattle.aiger_parts.specs.Reading.{number_at}
+use Rattle.aiger_parts.specs.Symbols.{Entries, symbols_at}
 use Rattle.aiger_read.specs.Lines.{lhs_of, more_at, input_at, output_at, and_line_at}
 use Rattle.aiger_read.specs.Text.{is_known, use_known_at, known_at, uses_of, and_of, listing_of, text_at, IsRingFault}
 use Rattle.aiger_read.specs.Spelling.{WritesNumber}

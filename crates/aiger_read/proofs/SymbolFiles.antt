@@ -6,15 +6,14 @@ use Rattle.std.specs.Option.{option_map}
 use Rattle.std.specs.Str.{IsUtf8, is_utf8, bytes_eq}
 use Rattle.std.proofs.lemmas.Bool.{eqb-true, eqb-false, ne_eqb}
 use Rattle.std.proofs.lemmas.List.{take-append-drop}
-use Rattle.std.proofs.lemmas.Str.{IsUtf8-from_is_utf8}
+use Rattle.std.proofs.lemmas.Str.{IsUtf8-from_is_utf8, is_utf8-from_IsUtf8}
 use Rattle.std.proofs.lemmas.Slice.Eq.{bytes_eq-Decides}
-use Rattle.aiger_read.specs.Reading.{◌>>=◌, field_length, number_of}
-use Rattle.aiger_read.specs.Symbols.{Entries, line_length, name_of, named, symbol_of, put_free, with_symbol, with_line, line_or, line_at, ends_symbols, symbols_at}
+use Rattle.aiger_parts.specs.Reading.{◌>>=◌, field_length, number_of}
+use Rattle.aiger_parts.specs.Symbols.{Entries, line_length, name_of, named, symbol_of, put_free, with_symbol, with_line, line_or, line_at, ends_symbols, symbols_at}
 use Rattle.aiger_read.specs.Spelling.{WritesNumber}
 use Rattle.aiger_read.specs.Spelled.{IsSymbolLine}
 use Rattle.aiger_read.proofs.WellFormed.{given, same_value, bind_ok}
 use Rattle.aiger_read.proofs.Numbers.{numbers}
-use Rattle.aiger_read.proofs.SymbolLines.{name_good}
 use Rattle.aiger_read.proofs.FileLines.{IsTail, LineAt, LinesAt, IsOneLine, lines_none, line_front, line_is, line_behind, one_line, take_front, drop_front}
 use Rattle.aiger_read.proofs.FieldTexts.{field_ends, field_one_line}
 
@@ -93,11 +92,11 @@ some_length : (name : List ℕ) → 0 < length name → (length name == 0) ≡ f
 some_length name lt = (let ne : length name ≢ 0 = λ e. absurd (omega arith) in ne_eqb (length name) 0 ne)
 
 symbol_written : (number name : List ℕ) (place : ℕ) → WritesNumber number place → 0 < length name → IsUtf8 name → symbol_of (number ++ 32 ∷ name) ≡ Some (symbol_pair place name)
-unfolding symbol_of symbol_pair
+unfolding symbol_of symbol_pair name_of
 symbol_written number name place w some utf8 =
     let len = field_ends number (32 ∷ name) place w refl in
     let read : number_of number ≡ Some place = (numbers number place).1 w in
-    rw (len, take_front number (32 ∷ name), drop_front number (32 ∷ name), read, name_good name (some_length name some) utf8) refl
+    rw (len, take_front number (32 ∷ name), drop_front number (32 ∷ name), read, some_length name some, is_utf8-from_IsUtf8 name utf8) refl
 
 line_written_rest : (kind place : ℕ) (name line : List ℕ) → IsSymbolLine kind place name line → (rest : List ℕ) × (line ≡ kind ∷ rest) × (symbol_of rest ≡ Some (symbol_pair place name))
 line_written_rest kind place name line s = (s.number ++ 32 ∷ name, s.line_is, symbol_written s.number name place s.writes s.some s.utf8)

@@ -8,14 +8,14 @@ use Rattle.std.proofs.lemmas.List.{length-set, length-replicate}
 use Rattle.golden_aig.specs.declared.graph.Aig.{Aig}
 use Rattle.golden_aig.specs.declared.graph.And.{And}
 use Rattle.golden_aig.specs.Aig.{IsAig, IsAndAt}
-use Rattle.aiger_read.specs.declared.fault.Stop.{Stop}
-use Rattle.aiger_read.specs.declared.header.Header.{Header}
-use Rattle.aiger_read.specs.declared.fault.AigerWhy.TheVariants as why
-use Rattle.aiger_read.specs.Reading.{◌>>=◌, fault, literal_at, and_at, many_at, number_at, field_at, line_end_at, difference_at}
-use Rattle.aiger_read.specs.Header.{header_at, has_head, fits_form, variables_at, latches_at, counts_at, zeros_at, spaces_in}
-use Rattle.aiger_read.specs.declared.header.Form.{Form}
-use Rattle.aiger_read.specs.declared.header.Form.TheVariants as form
-use Rattle.aiger_read.specs.Symbols.{Entries, symbol_of, with_symbol, put_free, with_line, line_at, line_or, ends_symbols, symbols_at, line_length}
+use Rattle.aiger_parts.specs.declared.fault.Stop.{Stop}
+use Rattle.aiger_parts.specs.declared.header.Header.{Header}
+use Rattle.aiger_parts.specs.declared.fault.AigerWhy.TheVariants as why
+use Rattle.aiger_parts.specs.Reading.{◌>>=◌, fault, literal_at, and_at, many_at, number_at, field_at, line_end_at, difference_at}
+use Rattle.aiger_parts.specs.Header.{header_at, has_head, fits_form, variables_at, latches_at, counts_at, zeros_at, spaces_in}
+use Rattle.aiger_parts.specs.declared.header.Form.{Form}
+use Rattle.aiger_parts.specs.declared.header.Form.TheVariants as form
+use Rattle.aiger_parts.specs.Symbols.{Entries, symbol_of, with_symbol, put_free, with_line, line_at, line_or, ends_symbols, symbols_at, line_length}
 use Rattle.aiger_read.specs.Graph.{graph_at}
 
 -- what two steps in turn gave, each gave

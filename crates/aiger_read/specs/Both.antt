@@ -3,10 +3,10 @@ use Rattle.std.specs.Prelude.{◌≡◌, ℕ, ◌⊎◌, nat_eq, Bool, true, fal
 use Rattle.std.specs.List.{starts_with}
 use Rattle.golden_aig.specs.declared.graph.Aig.{Aig}
 use Rattle.golden_aig.specs.Aig.{IsAig}
-use Rattle.aiger_read.specs.declared.fault.AigerWhy.TheVariants as why
-use Rattle.aiger_read.specs.declared.fault.AigerFault.{AigerFault}
-use Rattle.aiger_read.specs.declared.header.Form.TheVariants as form
-use Rattle.aiger_read.specs.Header.{word_of}
+use Rattle.aiger_parts.specs.declared.fault.AigerWhy.TheVariants as why
+use Rattle.aiger_parts.specs.declared.fault.AigerFault.{AigerFault}
+use Rattle.aiger_parts.specs.declared.header.Form.TheVariants as form
+use Rattle.aiger_parts.specs.Header.{word_of}
 use Rattle.aiger_read.specs.Graph.{ReadsAs, IsRefusal}
 use Rattle.aiger_read.specs.Text.{ListsAs, IsListRefusal}
 use Rattle.aiger_read.specs.Spelled.{Spelled}

@@ -7,14 +7,14 @@ use Rattle.golden_aig.specs.Aig.{IsAndAt}
 use Rattle.and_order.specs.Numbers.{HoldsOnce}
 use Rattle.and_order.specs.Listing.{IsDefinition, IsDefined, defined_by}
 use Rattle.and_order.specs.Ring.{IsRing}
-use Rattle.aiger_read.specs.declared.fault.AigerWhy.{AigerWhy}
-use Rattle.aiger_read.specs.declared.fault.AigerWhy.TheVariants as why
-use Rattle.aiger_read.specs.declared.fault.AigerFault.{AigerFault}
-use Rattle.aiger_read.specs.declared.header.Form.{Form}
-use Rattle.aiger_read.specs.declared.header.Form.TheVariants as form
-use Rattle.aiger_read.specs.Reading.{field_length}
-use Rattle.aiger_read.specs.Header.{spaces_in, word_of}
-use Rattle.aiger_read.specs.Symbols.{Entries, line_length}
+use Rattle.aiger_parts.specs.declared.fault.AigerWhy.{AigerWhy}
+use Rattle.aiger_parts.specs.declared.fault.AigerWhy.TheVariants as why
+use Rattle.aiger_parts.specs.declared.fault.AigerFault.{AigerFault}
+use Rattle.aiger_parts.specs.declared.header.Form.{Form}
+use Rattle.aiger_parts.specs.declared.header.Form.TheVariants as form
+use Rattle.aiger_parts.specs.Reading.{field_length}
+use Rattle.aiger_parts.specs.Header.{spaces_in, word_of}
+use Rattle.aiger_parts.specs.Symbols.{Entries, line_length}
 use Rattle.aiger_read.specs.Spelling.{WritesNumber, WriteGroups, BeginsWithDifference}
 use Rattle.aiger_read.specs.Both.{is_ascii, IsFault}
 use Rattle.aiger_read.specs.Spelled.{in_lines, LacksNewline, IsHeadLine, IsSymbolLine, AreSymbolLines, WritesAnd, IsAndLine, Spelled}

@@ -1,13 +1,13 @@
 -- The graph of a whole binary file.
 use Rattle.std.specs.Prelude.{◌≡◌, ℕ, ◌+◌, ◌-◌, ◌*◌, ◌⊎◌, List, length, replicate, None, Result, Ok, Err}
 use Rattle.golden_aig.specs.declared.graph.Aig.{Aig}
-use Rattle.aiger_read.specs.declared.fault.AigerWhy.TheVariants as why
-use Rattle.aiger_read.specs.declared.fault.AigerFault.{AigerFault}
-use Rattle.aiger_read.specs.declared.fault.Stop.{Stop}
-use Rattle.aiger_read.specs.Reading.{◌>>=◌, literal_at, and_at, many_at}
-use Rattle.aiger_read.specs.declared.header.Form.TheVariants as form
-use Rattle.aiger_read.specs.Header.{header_at}
-use Rattle.aiger_read.specs.Symbols.{symbols_at}
+use Rattle.aiger_parts.specs.declared.fault.AigerWhy.TheVariants as why
+use Rattle.aiger_parts.specs.declared.fault.AigerFault.{AigerFault}
+use Rattle.aiger_parts.specs.declared.fault.Stop.{Stop}
+use Rattle.aiger_parts.specs.Reading.{◌>>=◌, literal_at, and_at, many_at}
+use Rattle.aiger_parts.specs.declared.header.Form.TheVariants as form
+use Rattle.aiger_parts.specs.Header.{header_at}
+use Rattle.aiger_parts.specs.Symbols.{symbols_at}
 
 -- The header, so many output lines, so many ANDs, and the symbols.
 unfoldable pub graph_at : List ℕ → Result Aig Stop

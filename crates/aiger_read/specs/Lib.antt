@@ -1,6 +1,3 @@
-pub mod Reading
-pub mod Header
-pub mod Symbols
 pub mod Graph
 pub mod Spelling
 pub mod Lines

@@ -1,11 +1,11 @@
 -- The lines of an ASCII file.
 use Rattle.std.specs.Prelude.{◌≡◌, ℕ, zero, suc, ◌+◌, ◌*◌, ◌%◌, ◌==◌, ◌||◌, nat_lt, Bool, List, [], ◌∷◌, ◌++◌, length, map, slice_get, Some, Result, Ok, Err, if◌then◌else◌}
 use Rattle.std.specs.List.{list_any}
-use Rattle.aiger_read.specs.declared.fault.AigerWhy.TheVariants as why
-use Rattle.aiger_read.specs.declared.fault.Stop.{Stop}
+use Rattle.aiger_parts.specs.declared.fault.AigerWhy.TheVariants as why
+use Rattle.aiger_parts.specs.declared.fault.Stop.{Stop}
 use Rattle.aiger_read.specs.declared.lines.Used.{Used}
 use Rattle.aiger_read.specs.declared.lines.Line.{Line}
-use Rattle.aiger_read.specs.Reading.{◌>>=◌, fault, number_at, line_end_at}
+use Rattle.aiger_parts.specs.Reading.{◌>>=◌, fault, number_at, line_end_at}
 
 -- so many of one kind, where each may depend on those before it
 abbrev pub more_at : {A : Type 0} → (List A → List ℕ → Result (A × List ℕ) Stop) → ℕ → List A → List ℕ → Result (List A × List ℕ) Stop

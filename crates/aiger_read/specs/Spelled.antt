@@ -8,10 +8,10 @@ use Rattle.golden_aig.specs.Aig.{IsAig, variables_of}
 use Rattle.and_order.specs.declared.listing.Listing.{Listing}
 use Rattle.and_order.specs.Numbers.{HoldsOnce}
 use Rattle.and_order.specs.Renaming.{Renames, TakesFirst}
-use Rattle.aiger_read.specs.declared.header.Form.{Form}
-use Rattle.aiger_read.specs.declared.header.Form.TheVariants as form
-use Rattle.aiger_read.specs.Header.{word_of}
-use Rattle.aiger_read.specs.Symbols.{Entries}
+use Rattle.aiger_parts.specs.declared.header.Form.{Form}
+use Rattle.aiger_parts.specs.declared.header.Form.TheVariants as form
+use Rattle.aiger_parts.specs.Header.{word_of}
+use Rattle.aiger_parts.specs.Symbols.{Entries}
 use Rattle.aiger_read.specs.Spelling.{WritesNumber, WriteGroups}
 
 -- ---- lines and fields

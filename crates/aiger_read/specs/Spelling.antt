@@ -2,7 +2,7 @@
 use Rattle.std.specs.Prelude.{◌≡◌, ℕ, ◌+◌, ◌*◌, ◌<◌, ◌≤◌, ◌^◌, List, [], ◌∷◌, ◌++◌, length, Some, Ok}
 use Rattle.std.specs.Str.Parse.{IsNumeral, digits_value}
 use Rattle.golden_aig.specs.declared.graph.And.{And}
-use Rattle.aiger_read.specs.Reading.{number_of, difference_at, and_at}
+use Rattle.aiger_parts.specs.Reading.{number_of, difference_at, and_at}
 
 -- A field writes a number: one or more digits, leading zeros too, of a value below 2^32.
 pub record WritesNumber (field : List ℕ) (n : ℕ) : Type 0 where

@@ -5,16 +5,16 @@ use Rattle.golden_aig.specs.declared.graph.Aig.{Aig}
 use Rattle.and_order.specs.declared.listing.Listing.{Listing}
 use Rattle.and_order.specs.Renaming.{IsRenaming, IsOrdered, HasNoGraph}
 use Rattle.and_order.specs.Ring.{IsRing}
-use Rattle.aiger_read.specs.declared.fault.AigerWhy.TheVariants as why
-use Rattle.aiger_read.specs.declared.fault.AigerFault.{AigerFault}
-use Rattle.aiger_read.specs.declared.fault.Stop.{Stop}
-use Rattle.aiger_read.specs.declared.header.Form.TheVariants as form
+use Rattle.aiger_parts.specs.declared.fault.AigerWhy.TheVariants as why
+use Rattle.aiger_parts.specs.declared.fault.AigerFault.{AigerFault}
+use Rattle.aiger_parts.specs.declared.fault.Stop.{Stop}
+use Rattle.aiger_parts.specs.declared.header.Form.TheVariants as form
 use Rattle.aiger_read.specs.declared.lines.Used.{Used}
 use Rattle.aiger_read.specs.declared.lines.Line.{Line}
 use Rattle.aiger_read.specs.declared.text.Text.{Text}
-use Rattle.aiger_read.specs.Reading.{◌>>=◌}
-use Rattle.aiger_read.specs.Header.{header_at}
-use Rattle.aiger_read.specs.Symbols.{symbols_at}
+use Rattle.aiger_parts.specs.Reading.{◌>>=◌}
+use Rattle.aiger_parts.specs.Header.{header_at}
+use Rattle.aiger_parts.specs.Symbols.{symbols_at}
 use Rattle.aiger_read.specs.Lines.{is_in, lhs_of, more_at, input_at, output_at, and_line_at}
 
 -- ---- literals that are used are defined somewhere

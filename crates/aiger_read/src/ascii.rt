@@ -6,8 +6,8 @@ ghost use Rattle.and_order.specs.Listing.{IsListing};
 ghost use Rattle.and_order.specs.Renaming.{IsRenaming, IsOrdered};
 ghost use Rattle.aiger_read.specs.Text.{listing_of, ListsAs, ListsInOrder, IsOrderRefusal, IsListRefusal};
 
-use crate::fault::{AigerFault, AigerWhy, ReadStop, Stop, fault_of};
 use crate::text::{Text, make_listing, take_text};
+use aiger_parts::{AigerFault, AigerWhy, ReadStop, Stop, fault_of};
 use and_order::{OrderFault, renumber};
 use golden_aig::Aig;
 use std::alloc::Global;

@@ -2,14 +2,12 @@
 
 ghost use Rattle.std.specs.Prelude.{◌<◌, ◌^◌, length, IfOk, IfErr};
 ghost use Rattle.golden_aig.specs.Aig.{IsAig};
-ghost use Rattle.aiger_read.specs.Reading.{Gives};
+ghost use Rattle.aiger_parts.specs.Reading.{Gives};
 ghost use Rattle.aiger_read.specs.Graph.{graph_at, ReadsAs, IsRefusal};
 
-use crate::ands::take_ands;
-use crate::fault::{AigerFault, ReadStop, fault_of};
-use crate::header::{Form, take_header};
-use crate::outputs::take_outputs;
-use crate::symbols::take_symbols;
+use aiger_parts::{
+    AigerFault, Form, ReadStop, fault_of, take_ands, take_header, take_outputs, take_symbols,
+};
 use golden_aig::Aig;
 use rsfq_ids::list::List;
 use std::alloc::Global;

@@ -1,11 +1,10 @@
 //! The literals that a file defines, by its inputs and its ANDs.
 
 ghost use Rattle.std.specs.Prelude.{◌≡◌, ◌<◌, ◌≤◌, ◌/◌, ◌%◌, ◌+◌, ◌++◌, ◌∷◌, [], IfOk, OnOk};
-ghost use Rattle.aiger_read.specs.Reading.{Gives};
+ghost use Rattle.aiger_parts.specs.Reading.{Gives};
 ghost use Rattle.aiger_read.specs.Lines.{AreMarks, definition_at};
 
-use crate::fault::{AigerWhy, ReadStop, Stop};
-use crate::fields::take_number;
+use aiger_parts::{AigerWhy, ReadStop, Stop, take_number};
 use rsfq_ids::list::{List, NoMemory};
 use std::alloc::Global;
 

@@ -7,7 +7,7 @@ ghost use Rattle.aiger_read.specs.Spelled.{SpelledInOrder};
 
 use crate::ascii::read_ascii;
 use crate::binary::read_binary;
-use crate::fault::AigerFault;
+use aiger_parts::AigerFault;
 use golden_aig::Aig;
 use std::alloc::Global;
 

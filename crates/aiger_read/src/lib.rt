@@ -3,21 +3,15 @@
 //! [`read_aiger`] reads both forms, with their symbols: the graph, or the first fault with its place.
 #![tactic(auto)]
 
-mod ands;
 mod ascii;
 mod binary;
 mod definitions;
-mod fault;
-mod fields;
 mod forms;
-mod header;
 mod laws;
 mod lines;
-mod outputs;
-mod symbols;
 mod text;
 
-pub use fault::{AigerFault, AigerWhy};
+pub use aiger_parts::{AigerFault, AigerWhy};
 pub use forms::read_aiger;
 pub use laws::{
     ands_are_read, differences_are_read, faults_break, files_are_spelled, numbers_are_read,

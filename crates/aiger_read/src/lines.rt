@@ -1,13 +1,11 @@
 //! The lines of the ASCII form.
 
 ghost use Rattle.std.specs.Prelude.{◌≡◌, ◌<◌, ◌++◌, ◌∷◌, [], OnOk, IfOk};
-ghost use Rattle.aiger_read.specs.Reading.{Gives};
+ghost use Rattle.aiger_parts.specs.Reading.{Gives};
 ghost use Rattle.aiger_read.specs.Lines.{AreMarks, lhs_of, start_at, use_at, gap_at, input_at, output_at, and_line_at, more_at};
 
 use crate::definitions::{Definitions, take_definition};
-use crate::fault::{AigerWhy, ReadStop, Stop};
-use crate::fields::take_number;
-use crate::outputs::{end_line, take_literal};
+use aiger_parts::{AigerWhy, ReadStop, Stop, end_line, take_literal, take_number};
 use rsfq_ids::list::List;
 use std::alloc::Global;
 

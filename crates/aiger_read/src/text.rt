@@ -1,17 +1,15 @@
 //! An ASCII file, as it stands.
 
 ghost use Rattle.std.specs.Prelude.{◌≡◌, ◌≤◌, ◌/◌, ℕ, slice_get, map, Some, IfOk};
+ghost use Rattle.aiger_parts.specs.Reading.{Gives};
 ghost use Rattle.aiger_read.specs.declared.lines.Used.{Used};
 ghost use Rattle.aiger_read.specs.declared.lines.Line.{Line};
-ghost use Rattle.aiger_read.specs.Reading.{Gives};
 ghost use Rattle.aiger_read.specs.Lines.{AreMarks};
 ghost use Rattle.aiger_read.specs.Text.{use_known_at, known_at, uses_of, text_at, and_of, listing_of};
 
 use crate::definitions::Definitions;
-use crate::fault::{AigerWhy, ReadStop, Stop};
-use crate::header::{Form, take_header};
 use crate::lines::{Line, Used, take_and_lines, take_inputs, take_output_lines};
-use crate::symbols::take_symbols;
+use aiger_parts::{AigerWhy, Form, ReadStop, Stop, take_header, take_symbols};
 use and_order::Listing;
 use golden_aig::And;
 use rsfq_ids::list::{List, NoMemory};

@@ -1,12 +1,12 @@
 use Rattle.std.proofs.Common.{◌≡◌, ◌∙◌, ℕ, ◌+◌, ◌*◌, Bool, true, false, refl, ap, sym, subst, List, [], length, Result, Ok, Err}
 use Rattle.std.specs.Prelude.{◌==◌, nat_lt, if◌then◌else◌}
 use Rattle.std.proofs.lemmas.Result.{err_from_is_err_and}
-use Rattle.aiger_read.specs.declared.fault.AigerWhy.TheVariants as why
-use Rattle.aiger_read.specs.declared.fault.Stop.{Stop}
-use Rattle.aiger_read.specs.declared.fault.ReadStop.{ReadStop}
-use Rattle.aiger_read.specs.declared.fault.ReadStop.TheVariants as stop
+use Rattle.aiger_parts.specs.declared.fault.AigerWhy.TheVariants as why
+use Rattle.aiger_parts.specs.declared.fault.Stop.{Stop}
+use Rattle.aiger_parts.specs.declared.fault.ReadStop.{ReadStop}
+use Rattle.aiger_parts.specs.declared.fault.ReadStop.TheVariants as stop
 use Rattle.aiger_read.specs.declared.lines.Used.{Used}
-use Rattle.aiger_read.specs.Reading.{◌>>=◌, Fails, fault, number_at, line_end_at, literal_at}
+use Rattle.aiger_parts.specs.Reading.{◌>>=◌, Fails, fault, number_at, line_end_at, literal_at}
 use Rattle.aiger_read.specs.Lines.{use_at, output_at}
 use Rattle.aiger_read.proofs.lines.take_output.Goals as goal
 

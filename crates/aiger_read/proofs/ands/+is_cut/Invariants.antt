@@ -1,4 +1,0 @@
-use Rattle.aiger_read.proofs.ands.+is_cut.Given as goal
-
-abbrev pub decreases-is_cut : goal.decreases-is_cut
-decreases-is_cut l = l.most

@@ -1,4 +1,0 @@
-use Rattle.aiger_read.proofs.ands.+take_groups.Given as goal
-
-abbrev pub decreases-take_groups : goal.decreases-take_groups
-decreases-take_groups l = l.most

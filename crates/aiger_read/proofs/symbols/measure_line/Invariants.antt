@@ -1,6 +1,0 @@
-use Rattle.std.proofs.Common.{◌≡◌, ◌+◌, drop}
-use Rattle.aiger_read.specs.Symbols.{line_length}
-use Rattle.aiger_read.proofs.symbols.measure_line.Given as goal
-
-abbrev pub invariant-loop-place : goal.invariant-loop-place
-invariant-loop-place l = line_length l.bytes ≡ l.place + line_length (drop l.place l.bytes)
