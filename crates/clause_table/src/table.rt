@@ -1,5 +1,5 @@
 //! Clauses by their ids.
-ghost use Rattle.std.specs.Prelude.{◌≡◌, ◌≤◌, ◌<◌, length, is_some, IfOk, OnOk, MatchOption};
+ghost use Rattle.std.specs.Prelude.{◌≡◌, ◌≤◌, ◌<◌, length, is_some, IfOk, OnOk, OnErr, MatchOption};
 ghost use Rattle.std.specs.Option.{option_map};
 ghost use Rattle.clause_table.specs.Found.{given_at, with_clause, without_clause};
 ghost use Rattle.clause_table.specs.Entries.{found_of, last_of, IsAt, IsAbsent};
@@ -83,11 +83,12 @@ impl<'a> ClauseTable<'a> {
     ///
     /// # Errors
     ///
-    /// Only for want of memory. Of the table after that nothing is said.
+    /// Only for want of memory. The table is then as it was.
     pub fn add(&mut self, id: u32, clause: &'a [Lit]) -> Result<(), NoMemory>
         requires { last_of 0 self.old < id }
         ensures found { OnOk result (found_of self.new ≡ with_clause (found_of self.old) id clause.entry.now) }
         ensures last { OnOk result (last_of 0 self.new ≡ id) }
+        ensures err { OnErr result (self.new ≡ self.old) }
     {
         self.entries.push(Entry {
             id,

@@ -1,5 +1,5 @@
 //! Lines of a proof.
-ghost use Rattle.std.specs.Prelude.{◌≡◌, ◌≤◌, ◌+◌, length, drop, IfOk};
+ghost use Rattle.std.specs.Prelude.{◌≡◌, ◌≤◌, ◌+◌, [], length, drop, IfOk};
 ghost use Rattle.std.specs.List.{list_any};
 ghost use Rattle.dimacs_text.specs.Parts.{words, is_space};
 ghost use Rattle.dimacs_text.specs.declared.number.Signed.{Signed};
@@ -35,7 +35,10 @@ pub struct Numbers {
 
 impl Numbers {
     /// No numbers. It takes no memory; later calls take it from `alloc`.
-    pub fn new(alloc: Global) -> Numbers {
+    pub fn new(alloc: Global) -> Numbers
+        ensures lits { result.lits.items ≡ [] }
+        ensures hints { result.hints.items ≡ [] }
+    {
         Numbers {
             lits: Vec::new(alloc),
             hints: Vec::new(alloc),
