@@ -3,8 +3,9 @@
 use crate::ascii::read_ascii;
 use crate::binary::read_binary;
 use crate::{
-    AigerWhy, ands_are_read, differences_are_read, faults_break, files_are_spelled,
-    numbers_are_read, one_graph_is_spelled, read_aiger,
+    AigerWhy, ands_are_read, breaks_are_faults, differences_are_read, faults_break,
+    files_are_spelled, files_break_once, numbers_are_read, one_graph_is_spelled, read_aiger,
+    spelled_files_break_nowhere,
 };
 use golden_aig::{eval, golden_values, values_are_determined};
 use std::alloc::{AllocError, Global};
@@ -262,6 +263,9 @@ fn each_form_has_its_reader(rt: HostRuntime) -> Result<(), Fail> {
     files_are_spelled();
     one_graph_is_spelled();
     faults_break();
+    breaks_are_faults();
+    files_break_once();
+    spelled_files_break_nowhere();
     assert!(rt; read_binary(rt.alloc(), ONE_AND).is_ok());
     assert!(rt; read_ascii(rt.alloc(), ONE_AND).is_err());
     assert!(rt; read_ascii(rt.alloc(), b"aag 1 1 0 1 0\n2\n2\n").is_ok());
