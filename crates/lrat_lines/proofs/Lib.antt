@@ -1,1 +1,4 @@
 mod FieldSays
+mod SpelledFields
+mod SpelledLists
+mod SpelledLines

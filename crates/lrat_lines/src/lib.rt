@@ -2,8 +2,10 @@
 #![tactic(auto)]
 
 mod field;
+mod laws;
 mod line;
 #[cfg(test)]
 mod tests;
 
+pub use laws::lines_are_spelled;
 pub use line::{Form, Numbers};
