@@ -1,5 +1,5 @@
 //! Lines of each form.
-use crate::{Form, Numbers};
+use crate::{Form, Numbers, lines_are_spelled};
 use dimacs_text::Signed;
 use std::test::Fail;
 
@@ -29,6 +29,7 @@ fn lines_have_forms(rt: HostRuntime) -> Result<(), Fail> {
         (b"4 1 0 1 0 ", Form::Broken),
         (b"4294967296 0 0", Form::Broken),
     ];
+    lines_are_spelled();
     let mut numbers = Numbers::new(rt.alloc());
     for (line, form) in rows {
         assert_eq!(rt; numbers.read_line(line)?, form, "{line:?}");
