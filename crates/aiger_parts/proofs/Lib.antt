@@ -1,3 +1,3 @@
-pub mod Loop
-pub mod Digits
-pub mod SymbolLines
+mod Loop
+mod Digits
+mod SymbolLines

@@ -99,7 +99,8 @@ fn take_and(lhs: u32, bytes: &[u8]) -> Result<(And, &[u8]), ReadStop>
     Ok((and, behind))
 }
 
-/// `count` ANDs, which make the variables behind the inputs, and the bytes behind them.
+/// `count` ANDs, which make the variables behind the inputs, and the bytes behind them. There are at most 1,000,000 inputs and ANDs
+/// together.
 ///
 /// # Errors
 ///

@@ -76,7 +76,7 @@ pub enum ReadStop {
     At(Stop),
 }
 
-/// The fault of a file of `count` bytes, less than 2^32, in which a reader stopped.
+/// The fault of a file of `count` bytes, less than 2^32, in which a reader stopped. At want of memory its offset has no meaning.
 pub fn fault_of(count: usize, stop: ReadStop) -> AigerFault
     requires { count < 2 ^ 32 }
     ensures { IsFaultOf count stop result }

@@ -1,6 +1,6 @@
 //! Fields of lines: numbers in digits, and what stands behind them.
 
-ghost use Rattle.std.specs.Prelude.{◌≡◌, ◌≤◌, length};
+ghost use Rattle.std.specs.Prelude.{◌≡◌, ◌≢◌, ◌≤◌, length, IfErr};
 ghost use Rattle.aiger_parts.specs.Reading.{Gives, with_digit, number_of, ends_field, field_length, number_at, field_at};
 
 use crate::fault::{AigerWhy, ReadStop, Stop};
@@ -58,9 +58,10 @@ pub(crate) fn measure_field(bytes: &[u8]) -> usize
 ///
 /// # Errors
 ///
-/// `Number` at the front, where no digits of a value below 2^32 stand there.
+/// `Number` at the front, where what stands there up to the space, newline or end is not one digit or more of a value below 2^32.
 pub fn take_number(bytes: &[u8]) -> Result<(u32, &[u8]), ReadStop>
-    ensures { Gives (λ x. (x.0, x.1.now)) result (number_at bytes.now) }
+    ensures is { Gives (λ x. (x.0, x.1.now)) result (number_at bytes.now) }
+    ensures memory { IfErr result (λ e. e ≢ ReadStop.Memory) }
 {
     let end = measure_field(bytes);
     match parse_number(&bytes[..end]) {
@@ -74,7 +75,8 @@ pub fn take_number(bytes: &[u8]) -> Result<(u32, &[u8]), ReadStop>
 
 /// The same, and the bytes behind the space or newline.
 pub(crate) fn take_field(bytes: &[u8]) -> Result<(u32, &[u8]), ReadStop>
-    ensures { Gives (λ x. (x.0, x.1.now)) result (field_at bytes.now) }
+    ensures is { Gives (λ x. (x.0, x.1.now)) result (field_at bytes.now) }
+    ensures memory { IfErr result (λ e. e ≢ ReadStop.Memory) }
 {
     let (value, rest) = take_number(bytes)?;
     match rest {

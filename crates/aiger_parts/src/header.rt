@@ -1,6 +1,6 @@
 //! The first line of a file: `aag M I L O A` or `aig M I L O A`, and at most four further numbers.
 
-ghost use Rattle.std.specs.Prelude.{◌≡◌, ◌≤◌, ◌+◌, IfOk};
+ghost use Rattle.std.specs.Prelude.{◌≡◌, ◌≢◌, ◌≤◌, ◌+◌, IfOk, IfErr};
 ghost use Rattle.aiger_parts.specs.Reading.{Gives};
 ghost use Rattle.aiger_parts.specs.Header.{spaces_in, has_head, fits_form, zeros_at, variables_at, latches_at, counts_at, header_at};
 
@@ -70,7 +70,8 @@ fn fits_form(form: Form, header: Header) -> bool
 
 /// So many fields that are 0.
 fn take_zeros(count: usize, bytes: &[u8]) -> Result<&[u8], ReadStop>
-    ensures { Gives (λ x. x.now) result (zeros_at count bytes.now) }
+    ensures is { Gives (λ x. x.now) result (zeros_at count bytes.now) }
+    ensures memory { IfErr result (λ e. e ≢ ReadStop.Memory) }
 {
     if count == 0 {
         return Ok(bytes);
@@ -89,6 +90,7 @@ fn take_zeros(count: usize, bytes: &[u8]) -> Result<&[u8], ReadStop>
 fn take_variables(bytes: &[u8]) -> Result<(u32, &[u8]), ReadStop>
     ensures is { Gives (λ x. (x.0, x.1.now)) result (variables_at bytes.now) }
     ensures few { IfOk result (λ x. x.0 ≤ 1000000) }
+    ensures memory { IfErr result (λ e. e ≢ ReadStop.Memory) }
 {
     let (variables, rest) = take_field(bytes)?;
     if variables > 1_000_000 {
@@ -102,7 +104,8 @@ fn take_variables(bytes: &[u8]) -> Result<(u32, &[u8]), ReadStop>
 
 /// The bytes behind the number of latches, which is 0.
 fn take_latches(bytes: &[u8]) -> Result<&[u8], ReadStop>
-    ensures { Gives (λ x. x.now) result (latches_at bytes.now) }
+    ensures is { Gives (λ x. x.now) result (latches_at bytes.now) }
+    ensures memory { IfErr result (λ e. e ≢ ReadStop.Memory) }
 {
     let (latches, rest) = take_field(bytes)?;
     if latches != 0 {
@@ -119,6 +122,7 @@ fn take_latches(bytes: &[u8]) -> Result<&[u8], ReadStop>
 fn take_counts(variables: u32, bytes: &[u8]) -> Result<(Header, &[u8]), ReadStop>
     ensures is { Gives (λ x. (x.0, x.1.now)) result (counts_at variables bytes.now) }
     ensures top { IfOk result (λ x. x.0.variables ≡ variables) }
+    ensures memory { IfErr result (λ e. e ≢ ReadStop.Memory) }
 {
     let (inputs, rest) = take_field(bytes)?;
     let rest = take_latches(rest)?;
@@ -145,6 +149,7 @@ pub fn take_header(form: Form, bytes: &[u8]) -> Result<(Header, &[u8]), ReadStop
     ensures is { Gives (λ x. (x.0, x.1.now)) result (header_at form bytes.now) }
     ensures few { IfOk result (λ x. x.0.variables ≤ 1000000) }
     ensures fits { IfOk result (λ x. x.0.inputs + x.0.ands ≤ x.0.variables) }
+    ensures memory { IfErr result (λ e. e ≢ ReadStop.Memory) }
 {
     if !begins_file(form, bytes) {
         return Err(ReadStop::At(Stop {

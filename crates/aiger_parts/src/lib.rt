@@ -1,7 +1,7 @@
 //! The parts of an AIGER file (Biere, Heljanko, Wieringa: AIGER 1.9 And Beyond, 2011), each read from the left.
 //!
-//! A reader takes the bytes from a place in the file to its end, and answers the part that stands at the front, with the bytes behind
-//! it, or the first fault. What each part is stands in `specs/`.
+//! A reader takes the bytes from a place in the file to its end, and answers the part that stands at the front or the first fault. But for
+//! the symbols, which are the last part, it answers the bytes behind the part too. What each part is stands in `specs/`.
 #![tactic(auto)]
 
 mod ands;

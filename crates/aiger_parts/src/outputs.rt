@@ -1,5 +1,6 @@
 //! The lines of output literals.
 
+ghost use Rattle.std.specs.Prelude.{◌≢◌, IfErr};
 ghost use Rattle.aiger_parts.specs.Reading.{Gives, literal_at, many_at, line_end_at};
 
 use crate::fault::{AigerWhy, ReadStop, Stop};
@@ -13,7 +14,8 @@ use std::alloc::Global;
 ///
 /// `Number` at the front, where another byte stands.
 pub fn end_line(bytes: &[u8]) -> Result<&[u8], ReadStop>
-    ensures { Gives (λ x. x.now) result (line_end_at bytes.now) }
+    ensures is { Gives (λ x. x.now) result (line_end_at bytes.now) }
+    ensures memory { IfErr result (λ e. e ≢ ReadStop.Memory) }
 {
     match bytes {
         [] => Ok(bytes),
@@ -32,7 +34,8 @@ pub fn end_line(bytes: &[u8]) -> Result<&[u8], ReadStop>
 /// `Truncated` where no byte is left, `Number` or `Range` at the literal, or `Number` at what stands in the place of the line's end.
 #[tactic(auto, unfolding(crate::specs::Reading::literal_at))]
 pub fn take_literal(top: u32, bytes: &[u8]) -> Result<(u32, &[u8]), ReadStop>
-    ensures { Gives (λ x. (x.0, x.1.now)) result (literal_at top bytes.now) }
+    ensures is { Gives (λ x. (x.0, x.1.now)) result (literal_at top bytes.now) }
+    ensures memory { IfErr result (λ e. e ≢ ReadStop.Memory) }
 {
     if bytes.is_empty() {
         return Err(ReadStop::At(Stop {

@@ -124,11 +124,11 @@ fn put_line(alloc: Global, symbols: &mut Symbols, bytes: &[u8]) -> Result<bool, 
     }
 }
 
-/// The symbols of the lines, where there are so many inputs and outputs.
+/// The symbols of the lines up to a line `c` or the end of the file, where there are so many inputs and outputs.
 ///
 /// # Errors
 ///
-/// `Symbol` at the first line that is neither `c` nor a symbol of an input or output that still has none, or want of memory.
+/// `Symbol` at the first of these lines that is no symbol of an input or output that still has none, or want of memory.
 pub fn take_symbols(
     alloc: Global,
     inputs: u32,

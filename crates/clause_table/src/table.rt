@@ -38,7 +38,7 @@ impl<'a> Model for ClauseTable<'a> {
 }
 
 impl<'a> ClauseTable<'a> {
-    /// The clauses of a formula, with the ids from 1 on. It takes its memory from `alloc`, as later calls do.
+    /// The clauses of a formula, at most 2,147,483,647, with the ids from 1 on. It takes its memory from `alloc`, as later calls do.
     ///
     /// # Errors
     ///

@@ -1,5 +1,5 @@
 //! Fields of a list, and lists.
-ghost use Rattle.std.specs.Prelude.{◌≡◌, ◌≤◌, ◌+◌, Some, None, length, drop, IfOk, IfSome, MatchOption};
+ghost use Rattle.std.specs.Prelude.{◌≡◌, ◌≤◌, Some, None, length, drop, IfOk, IfSome};
 ghost use Rattle.dimacs_text.specs.Parts.{words, is_space};
 ghost use Rattle.lrat_lines.specs.Lines.{field_of, list_of};
 

@@ -1,5 +1,5 @@
 //! Lines of a proof.
-ghost use Rattle.std.specs.Prelude.{◌≡◌, ◌≤◌, ◌+◌, [], length, drop, IfOk};
+ghost use Rattle.std.specs.Prelude.{◌≡◌, ◌≤◌, [], length, drop, IfOk};
 ghost use Rattle.std.specs.List.{list_any};
 ghost use Rattle.dimacs_text.specs.Parts.{words, is_space};
 ghost use Rattle.dimacs_text.specs.declared.number.Signed.{Signed};
