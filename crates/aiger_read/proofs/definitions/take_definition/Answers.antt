@@ -17,4 +17,4 @@ returns-clause-is c =
     let mark = c.requires.marks.each (literal / 2) c.index.result.now at in
     let whole : 2 * (literal / 2) ≡ literal = omega arith in
     let new : is_in defined literal ≡ false = ap (is_in defined) (sym whole) ∙ (sym mark ∙ c.if-index.false) in
-    definition_ok c.args.top literal defined c.args.bytes.now c.in_ok-literal.rest.now c.in_ok-literal.ensures (not_out c.args.top literal (omega arith) even (omega arith)) new
+    definition_ok c.args.top literal defined c.args.bytes.now c.in_ok-literal.rest.now c.in_ok-literal.ensures.is (not_out c.args.top literal (omega arith) even (omega arith)) new

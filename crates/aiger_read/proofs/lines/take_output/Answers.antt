@@ -49,9 +49,9 @@ as_fails : (top : ℕ) (bytes : List ℕ) (s : ReadStop) → Fails s (literal_at
 as_fails top bytes s fails = subst (Fails s) (as_literal top bytes) (fails_on s (literal_at (2 * top + 1) bytes) (used bytes) fails)
 
 pub returns : goal.returns
-returns c = sym (as_literal c.args.top c.args.bytes.now) ∙ ap (λ r. r >>= used c.args.bytes.now) c.in_ok-literal.ensures
+returns c = sym (as_literal c.args.top c.args.bytes.now) ∙ ap (λ r. r >>= used c.args.bytes.now) c.in_ok-literal.ensures.is
 
 pub returns-in_err-literal : goal.returns-in_err-literal
 returns-in_err-literal c =
     let p = err_from_is_err_and c.from_residual.result c.from_residual.ensures.1 in
-    rw (p.1, p.2) (as_fails c.args.top c.args.bytes.now c.in_err-literal.field-0.0 c.in_err-literal.ensures)
+    rw (p.1, p.2) (as_fails c.args.top c.args.bytes.now c.in_err-literal.field-0.0 c.in_err-literal.ensures.is)
