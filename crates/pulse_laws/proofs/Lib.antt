@@ -41,3 +41,4 @@ pub mod Register
 pub mod Wires
 pub mod OneWire
 pub mod Runs
+pub mod HopPaths

@@ -1,5 +1,5 @@
 -- JTL wires meet what the laws ask, and carry the bits of their inputs.
-use Rattle.std.proofs.Common.{◌≡◌, ℕ, zero, suc, ◌<◌, Bool, true, false, cond, ℤ, pos, ◌+ℤ◌, ◌*ℤ◌, ◌≤ℤ◌, ◌<ℤ◌, List, [], ◌∷◌, length, take, map, nat_eq, refl, sym, ap, ◌∙◌, subst, arith, eq-eqb, eqb-true}
+use Rattle.std.proofs.Common.{◌≤◌, ◌≡◌, ℕ, zero, suc, ◌<◌, Bool, true, false, cond, ℤ, pos, ◌+ℤ◌, ◌*ℤ◌, ◌≤ℤ◌, ◌<ℤ◌, List, [], ◌∷◌, length, take, map, nat_eq, refl, sym, ap, ◌∙◌, subst, arith, eq-eqb, eqb-true}
 use Rattle.std.proofs.lemmas.Int.{ints}
 use Rattle.std.proofs.lemmas.Bool.{false≢true}
 use Rattle.std.specs.Prelude.{Some, None, slice_get, Option}
@@ -35,6 +35,7 @@ use Rattle.rsfq_ids.specs.Ready.{HasGoodShape}
 use Rattle.rsfq_ids.specs.Signed.{HasAllDepths}
 use Rattle.pulse_laws.specs.Premises.{IsTimed}
 use Rattle.pulse_laws.specs.Statements.{AreDepths, HasOutputValue}
+use Rattle.pulse_laws.specs.Hops.{OrdersPlace}
 use Rattle.pulse_laws.specs.Wires.{IsWireFrom, depths_of, IsSourceBit, IsWired, OrdersRank, WiresAreSigned}
 use Rattle.pulse_laws.proofs.Flows.{one_row}
 use Rattle.pulse_laws.proofs.Ready.{rows, use_fits, numbered, cell_reader}
@@ -77,6 +78,31 @@ orders_rank design order fits ordered = (
       (let within = cell_reader design fits reads.2 cell reads.0 reads.4 in
       let here = at_position cell order (ordered.each cell within) in
       position_before before (position cell order) order (ordered.after (position cell order) cell before here reads)),
+)
+
+position_first : (x k : ℕ) (xs : List ℕ) → slice_get xs k ≡ Some x → position x xs ≤ k
+unfolding position
+position_first x k [] is = omega arith
+position_first x zero (y ∷ ys) is = (let same : y ≡ x = cc in go (nat_eq y x) refl same)
+  where
+    go : (b : Bool) → nat_eq y x ≡ b → y ≡ x → cond b 0 (suc (position x ys)) ≤ 0
+    go true here same = omega arith
+    go false other same = absurd (false≢true (sym other ∙ eq-eqb y x same))
+position_first x (suc k) (y ∷ ys) is = go (nat_eq y x) (position_first x k ys is)
+  where
+    go : (b : Bool) → position x ys ≤ k → cond b 0 (suc (position x ys)) ≤ suc k
+    go true l = omega arith
+    go false l = omega arith
+
+pub orders_place : OrdersPlace
+orders_place design order fits ordered = (
+  λ cell. position cell order,
+  λ cell before reads.
+      (let within = cell_reader design fits reads.2 cell reads.0 reads.4 in
+      let here = at_position cell order (ordered.each cell within) in
+      position_before before (position cell order) order (ordered.after (position cell order) cell before here reads)),
+  λ cell within. at_position cell order (ordered.each cell within),
+  λ place cell is. position_first cell place order is,
 )
 
 -- ---- shape

@@ -6,3 +6,4 @@ pub mod Flows
 pub mod Statements
 pub mod Wires
 pub mod Examples
+pub mod Hops

@@ -4,6 +4,7 @@
 //! places; nothing is computed. In order: what makes a design ready, the pulses of a run and their paths, clean runs,
 //! steps and depths, values, the filling of the pipeline, and what is signed off.
 
+ghost use Rattle.pulse_laws.specs.Hops.{OrdersPlace, PathsExist, PathsHaveOrigins, StepsAreOne};
 ghost use Rattle.pulse_laws.specs.Wires.{OrdersRank, WiresAreSigned};
 ghost use Rattle.pulse_laws.specs.Statements.{CircuitsAreReady, ClocksRise, DepthsExist, DesignsAreSigned, FillingsExist, OrderIsFree, OutputStepsBySum, RunsAreClean, RunsExist, RunsHaveFillBits, RunsHaveFillings, RunsHaveTags, RunsHaveValues, RunsKeepSpreads, SignedAsWanted, SignedInAnyOrder, SpreadsFill, StepsBySpread, StepsExist, TagsMakeClean, ValuesBelow, ValuesExist};
 
@@ -168,4 +169,24 @@ pub fn orders_rank()
 /// netlists.
 pub fn wires_are_signed()
     ensures { WiresAreSigned }
+{}
+
+/// A path leads to each pin of a ready design. So a list of all paths to a pin is never empty.
+pub fn paths_exist()
+    ensures { PathsExist }
+{}
+
+/// A path to a data pin of a gate or to an output begins at a data input, or passes a gate that comes earlier in the order.
+pub fn paths_have_origins()
+    ensures { PathsHaveOrigins }
+{}
+
+/// The steps of a path to a pin of a ready design are one number. So what a tool computes as steps are all that there are.
+pub fn steps_are_one()
+    ensures { StepsAreOne }
+{}
+
+/// An order of the cells of a well-formed circuit, each behind those that it reads from, gives a rank that is the place of each cell.
+pub fn orders_place()
+    ensures { OrdersPlace }
 {}

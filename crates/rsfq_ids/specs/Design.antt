@@ -8,3 +8,7 @@ pub record Design : Type 0 where
   pub table : CellTable
   pub flat : Flat
   pub bench : Bench
+
+-- a design of its three parts
+abbrev pub design_of : CellTable → Flat → Bench → Design
+design_of table flat bench = record { table = table; flat = flat; bench = bench }

@@ -1,6 +1,7 @@
 -- Formulas: literals, clauses, and what satisfies them. The format is that of the DIMACS challenge of 1993.
 use Rattle.std.specs.Prelude.{ℕ, ◌+◌, ◌-◌, ◌*◌, ◌/◌, ◌%◌, ◌<◌, ◌≤◌, ◌==◌, Bool, not, if◌then◌else◌, List, length, IsTrue, ◌≢◌}
 use Rattle.std.specs.List.{All, AllPairs, list_any}
+use Rattle.rsfq_ids.specs.declared.limits.TheConstants.{FORMULA_LIMIT}
 use Rattle.rsfq_ids.specs.declared.circuit.Cnf.{Cnf}
 
 -- A literal is twice its variable, plus 1 for the negation. A clause is its list of literals.
@@ -31,5 +32,5 @@ IsOver vars clause = All (λ lit. lit < 2 * vars) clause
 pub record IsFormula (cnf : Cnf) : Type 0 where
   pub lits : All (IsOver cnf.vars) cnf.clauses
   pub once : All (λ clause. AllPairs (λ one other. one ≢ other) clause) cnf.clauses
-  pub vars : cnf.vars ≤ 2147483647
-  pub count : length cnf.clauses ≤ 2147483647
+  pub vars : cnf.vars ≤ FORMULA_LIMIT
+  pub count : length cnf.clauses ≤ FORMULA_LIMIT

@@ -13,3 +13,4 @@ pub mod Filling
 pub mod Signed
 pub mod Order
 pub mod Formula
+pub mod Propagation

@@ -2,6 +2,7 @@
 use Rattle.std.specs.Prelude.{◌≡◌, ◌≢◌, ℕ, ◌+◌, ◌<◌, ◌≤◌, ◌^◌, true, false, cond, ℤ, pos, ◌≤ℤ◌, ◌<ℤ◌, List, [], ◌∷◌, ◌++◌, map, length, slice_get, Some, None, unwrap_or, option_to_list}
 use Rattle.std.specs.Option.{option_map}
 use Rattle.std.specs.List.{All, AllPairs, flat_map, enumerate_from, range_with_len}
+use Rattle.rsfq_ids.specs.declared.limits.TheConstants.{CELL_LIMIT, TIME_LIMIT}
 use Rattle.rsfq_ids.specs.declared.id.PortId.{PortId}
 use Rattle.rsfq_ids.specs.declared.table.CellTable.{CellTable}
 use Rattle.rsfq_ids.specs.declared.table.CellRow.{CellRow}
@@ -24,13 +25,13 @@ use Rattle.rsfq_ids.specs.Bench.{IsUsed}
 abbrev pub AreDistinct : List (List ℕ) → Type 0
 AreDistinct names = AllPairs (λ one other. one ≢ other) names
 
--- a time that a table may hold: at most 1,000,000,000 fs
+-- a time that a table may hold, in femtoseconds
 abbrev pub IsTime : ℤ → Type 0
-IsTime time = IsWithin (pos 0) (pos 1000000000) time
+IsTime time = IsWithin (pos 0) (pos TIME_LIMIT) time
 
 -- such a time of at least 1 fs
 abbrev pub IsPositiveTime : ℤ → Type 0
-IsPositiveTime time = IsWithin (pos 1) (pos 1000000000) time
+IsPositiveTime time = IsWithin (pos 1) (pos TIME_LIMIT) time
 
 -- The pins, the truth string and the times that a kind of cell has. A passive cell has no truth string, setup or hold, and they are kept as 0.
 abbrev pub FitsKind : Kind → CellRow → Type 0
@@ -76,7 +77,7 @@ readers_of table flat =
 
 -- A well-formed circuit over a table: its cells are of rows, no two ports have one name, its nets and pins are those that its ports and cells have, in this order, and each pin reads a net.
 pub record IsFlat (table : CellTable) (flat : Flat) : Type 0 where
-  pub cells : length flat.cells ≤ 100000
+  pub cells : length flat.cells ≤ CELL_LIMIT
   pub rows : All (λ cell. cell.row < length table.rows) flat.cells
   pub names : AreDistinct (map (λ port. port.name) flat.ports)
   pub nets : flat.nets ≡ drivers_of table flat

@@ -3,6 +3,7 @@
 
 pub mod circuit;
 pub mod id;
+pub mod limits;
 pub mod list;
 pub mod name;
 pub mod offence;
