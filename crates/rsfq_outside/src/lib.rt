@@ -17,8 +17,6 @@ mod memory_sink;
 mod sink;
 mod status;
 mod steady;
-#[cfg(test)]
-mod tests;
 
 pub use answer::{FILE_LIMIT, Reply, Stop, deliver, make_fault_line, read_file};
 pub use edge::{DiskFolder, StdoutSink};

@@ -1,7 +1,8 @@
-use crate::*;
-use std::cell::Cell;
-use std::fmt::Display;
-use std::io;
+//! The folders and sinks in memory, and a read with the delivery of its line.
+use rsfq_outside::{
+    CallKind, Folder, MemoryFolder, MemorySink, Reply, Status, SteadyFolder, SteadySink, Stop,
+    deliver, make_fault_line, read_file, write_all_to,
+};
 use std::test::Fail;
 
 #[test]
@@ -70,63 +71,5 @@ fn read_stops_with_its_line(rt: HostRuntime) -> Result<(), Fail> {
         sink.bytes(),
         b"fault read n.v\nrefused long c.csv\nfault".as_slice()
     );
-    Ok(())
-}
-
-#[test]
-fn disk_folder_reads_what_it_wrote(rt: HostRuntime) -> Result<(), Fail> {
-    let mut folder = DiskFolder::new(rt.alloc(), &rt);
-    assert_eq!(rt; folder.read_front("a", 5).is_err(), true);
-    folder.write_whole("a", b"hello")?;
-    assert_eq!(rt; folder.read_front("a", 3)?.as_slice(), b"hel".as_slice());
-    assert_eq!(rt; folder.read_front("a", 9)?.as_slice(), b"hello".as_slice());
-    assert_eq!(rt; folder.read_front("a", 0)?.len(), 0);
-    let long = vec![in rt.alloc(); 7; 70000]?;
-    folder.write_whole("long", &long)?;
-    assert_eq!(rt; folder.read_front("long", 70001)?.len(), 70000);
-    assert_eq!(rt; folder.read_front("long", 65537)?.len(), 65537);
-    folder.write_whole("a", b"x")?;
-    assert_eq!(rt; folder.read_front("a", 9)?.as_slice(), b"x".as_slice());
-    assert_eq!(rt; folder.write_whole("no/b", b"x").is_err(), true);
-    Ok(())
-}
-
-// A terminal that takes one byte of each piece, and counts them.
-#[derive(Drop)]
-struct SlowTerminal {
-    taken: Cell<u64>,
-}
-
-impl Print for SlowTerminal {
-    fn print<D: Display + Drop>(&self, _value: D) -> io::Result<()> {
-        Ok(())
-    }
-
-    fn println<D: Display + Drop>(&self, _value: D) -> io::Result<()> {
-        Ok(())
-    }
-
-    fn write_all(&self, _bytes: &[u8]) -> io::Result<()> {
-        Ok(())
-    }
-
-    fn write_some(&self, bytes: &[u8]) -> io::Result<usize> {
-        let count = bytes.len().min(1);
-        self.taken
-            .set(self.taken.get().saturating_add(count as u64));
-        Ok(count)
-    }
-}
-
-#[test]
-fn stdout_sink_writes(rt: HostRuntime) -> Result<(), Fail> {
-    let mut sink = StdoutSink::new(&rt);
-    write_all_to(&mut sink, b"a line of standard output\n")?;
-    write_all_to(&mut sink, b"")?;
-    let slow = SlowTerminal {
-        taken: Cell::new(0),
-    };
-    write_all_to(&mut StdoutSink::new(&slow), b"four")?;
-    assert_eq!(rt; slow.taken.get(), 4);
     Ok(())
 }
