@@ -4,21 +4,21 @@ use Rattle.std.specs.Option.{option_map}
 use Rattle.std.proofs.lemmas.Bool.{cases_lt}
 use Rattle.std.proofs.lemmas.Bool.Decides.{nat_tests}
 use Rattle.std.proofs.lemmas.Option.{slice_get_within, slice_get_cases}
-use Rattle.verilog_sites.specs.Sites.{Site, Listed}
-use Rattle.verilog_sites.specs.Again.{IsBitAgain}
-use Rattle.module_scope.specs.Scoped.{IsFirstDouble}
-use Rattle.bound_source.specs.declared.fault.BindFault.{BindFault}
-use Rattle.bound_source.specs.declared.fault.BindFault.TheVariants as fault
-use Rattle.bound_source.specs.Modules.{Setting, IsTop}
-use Rattle.bound_source.specs.Faults.{Place, IsBefore, HasSites, IsDuplicate, OfModules, OfCell, Within, OfBits}
-use Rattle.bound_source.specs.First.{Duplicates, StandsNowhere, IsFirstFault}
-use Rattle.kind_ports.specs.declared.design.Design.{Design}
-use Rattle.kind_ports.specs.Design.{setting_of}
+use Rattle.bind_sites.specs.Sites.{Site, Listed}
+use Rattle.bind_sites.specs.Again.{IsBitAgain}
+use Rattle.bind_names.specs.Scoped.{IsFirstDouble}
+use Rattle.bind_forms.specs.declared.fault.BindFault.{BindFault}
+use Rattle.bind_forms.specs.declared.fault.BindFault.TheVariants as fault
+use Rattle.bind_forms.specs.Modules.{Setting, IsTop}
+use Rattle.bind_forms.specs.Faults.{Place, IsBefore, HasSites, IsDuplicate, OfModules, OfCell, Within, OfBits}
+use Rattle.bind_forms.specs.First.{Duplicates, StandsNowhere, IsFirstFault}
+use Rattle.bind_kinds.specs.declared.netlist.Netlist.{Netlist}
+use Rattle.bind_kinds.specs.Netlist.{setting_of}
 use Rattle.bind_faults.specs.declared.doubles.Double.{Double}
 use Rattle.bind_faults.specs.Order.{IsClear, IsFirstAt, Answers}
 use Rattle.bind_faults.specs.Doubles.{place_of, IsFirstOf, IsKindTwice, IsWithin, IsTopBit, is_before, first_of}
 use Rattle.bind_faults.specs.Doubles as twice
-use Rattle.bind_faults.specs.Design.{IsTold}
+use Rattle.bind_faults.specs.Told.{IsTold}
 use Rattle.bind_faults.proofs.Order.{first_fault, clear_none, clear_more}
 use Rattle.bind_faults.proofs.Places.{scopes_count}
 use Rattle.bind_faults.proofs.OneTop.{one_top, top_reached}
@@ -89,9 +89,9 @@ found_is setting top place name is (inr b) = OfBits b.1.0 (subst (λ (n : ℕ). 
 abbrev Covered : (Place → List ℕ → Type 0) → Place → Type 0
 Covered P place = (other : Place) × (name : List ℕ) × P other name × (IsBefore other place ⊎ (other ≡ place))
 
-module _ (design : Design) (told : IsTold design) (top : ℕ) (is : IsTop (setting_of design) top) where
+module _ (netlist : Netlist) (told : IsTold netlist) (top : ℕ) (is : IsTop (setting_of netlist) top) where
   abbrev setting : Setting
-  setting = setting_of design
+  setting = setting_of netlist
 
   abbrev Any : Place → List ℕ → Type 0
   Any = Or (Or (IsKindTwice setting) (IsWithin setting)) (IsTopBit setting top)
@@ -111,11 +111,11 @@ module _ (design : Design) (told : IsTold design) (top : ℕ) (is : IsTop (setti
   ]
 
   scope_there : (all : List Site) → HasSites setting top all → (double : Option (ℕ × List ℕ)) × IsFirstDouble all double
-  scope_there all has = elim (slice_get_cases design.scopes.now top).1 [
-    | inl there ↦ (option_map (λ (at, name). (at, name.now)) (get_or design.scopes.now top there.0).double, told_double design top there.0 all told there.1 has)
+  scope_there all has = elim (slice_get_cases netlist.scopes.now top).1 [
+    | inl there ↦ (option_map (λ (at, name). (at, name.now)) (get_or netlist.scopes.now top there.0).double, told_double netlist top there.0 all told there.1 has)
     | inr past ↦
         let near : top < length setting.modules = slice_get_within setting.modules top has.owner has.there in
-        absurd (omega (arith, near, past.0, scopes_count design told.is_design))
+        absurd (omega (arith, near, past.0, scopes_count netlist told.is_netlist))
   ]
 
   covered : (place : Place) (name : List ℕ) → IsDuplicate setting place name → Covered Any place

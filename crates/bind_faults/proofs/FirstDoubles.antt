@@ -4,19 +4,19 @@ use Rattle.std.specs.Prelude.{slice_get, MatchOption}
 use Rattle.std.specs.Option.{option_map}
 use Rattle.std.proofs.lemmas.Bool.{cases_lt}
 use Rattle.std.proofs.lemmas.Option.{slice_get_within, slice_get-get_or, same_Some}
-use Rattle.verilog_sites.specs.Sites.{Site, Listed, sites}
-use Rattle.verilog_sites.specs.Again.{IsAgain, IsBitAgain}
-use Rattle.module_scope.specs.declared.scope.Scope.{Scope}
-use Rattle.module_scope.specs.Scoped.{HasNoDouble, IsFirstDouble}
-use Rattle.module_tree.specs.Duplicates.{IsDuplicate as IsKindDuplicate, IsFirstDuplicate}
-use Rattle.bound_source.specs.Modules.{Setting, IsModuleNamed, IsReached}
-use Rattle.bound_source.specs.Faults.{Place, HasSites}
-use Rattle.kind_ports.specs.declared.design.Design.{Design}
-use Rattle.kind_ports.specs.Design.{setting_of}
-use Rattle.kind_ports.specs.Ports.{HasFirstDouble}
+use Rattle.bind_sites.specs.Sites.{Site, Listed, sites}
+use Rattle.bind_sites.specs.Again.{IsAgain, IsBitAgain}
+use Rattle.bind_names.specs.declared.scope.Scope.{Scope}
+use Rattle.bind_names.specs.Scoped.{HasNoDouble, IsFirstDouble}
+use Rattle.bind_hierarchy.specs.Duplicates.{IsDuplicate as IsKindDuplicate, IsFirstDuplicate}
+use Rattle.bind_forms.specs.Modules.{Setting, IsModuleNamed, IsReached}
+use Rattle.bind_forms.specs.Faults.{Place, HasSites}
+use Rattle.bind_kinds.specs.declared.netlist.Netlist.{Netlist}
+use Rattle.bind_kinds.specs.Netlist.{setting_of}
+use Rattle.bind_kinds.specs.Ports.{HasFirstDouble}
 use Rattle.bind_faults.specs.Doubles.{IsFirstOf, IsKindTwice, IsWithin, IsTopBit, TellsDouble, IsDoubleAt}
 use Rattle.bind_faults.specs.Doubles as twice
-use Rattle.bind_faults.specs.Design.{IsTold}
+use Rattle.bind_faults.specs.Told.{IsTold}
 use Rattle.bind_faults.proofs.Places.{one_list, zip_at}
 use Rattle.bind_faults.proofs.OneTop.{one_name}
 
@@ -50,10 +50,10 @@ kind_there setting at none first = let no : None ≡ Some first.0.1.0.0 = sym no
 -- ---- within modules
 
 -- the first name of a module that is given twice
-pub told_double : (design : Design) (at : ℕ) (default : Scope) (all : List Site) → IsTold design → at < length design.scopes.now → HasSites (setting_of design) at all → TellsDouble all (get_or design.scopes.now at default)
-told_double design at default all told l has =
-    let scope = get_or design.scopes.now at default in
-    let found = zip_at HasFirstDouble (setting_of design).modules design.scopes.now at scope told.doubles (slice_get-get_or design.scopes.now at default l) in
+pub told_double : (netlist : Netlist) (at : ℕ) (default : Scope) (all : List Site) → IsTold netlist → at < length netlist.scopes.now → HasSites (setting_of netlist) at all → TellsDouble all (get_or netlist.scopes.now at default)
+told_double netlist at default all told l has =
+    let scope = get_or netlist.scopes.now at default in
+    let found = zip_at HasFirstDouble (setting_of netlist).modules netlist.scopes.now at scope told.doubles (slice_get-get_or netlist.scopes.now at default l) in
     let same : all ≡ sites found.0 = has.sites_are ∙ ap sites (same_Some has.owner found.0 (sym has.there ∙ found.1)) in
     subst (λ (l : List Site). TellsDouble l scope) (sym same) found.2
 

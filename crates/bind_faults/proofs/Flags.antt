@@ -2,9 +2,9 @@
 use Rattle.std.proofs.Common.{◌≡◌, ℕ, Bool, List, Option, Some, None, get_or, sym, ap, subst, Vec, Global}
 use Rattle.std.specs.Option.{option_map}
 use Rattle.std.proofs.lemmas.List.Elements.{Contains-get_or}
-use Rattle.module_tree.specs.Modules as hierarchy
-use Rattle.module_tree.specs.Reach.{IsReach}
-use Rattle.bound_source.specs.Modules.{Setting, IsTop, IsReached}
+use Rattle.bind_hierarchy.specs.Modules as hierarchy
+use Rattle.bind_hierarchy.specs.Reach.{IsReach}
+use Rattle.bind_forms.specs.Modules.{Setting, IsTop, IsReached}
 use Rattle.bind_faults.specs.declared.find.Reached.{Reached}
 use Rattle.bind_faults.specs.Checks.{AreReached}
 use Rattle.bind_faults.specs.Reached.{IsReachedBy}

@@ -4,15 +4,15 @@ use Rattle.std.specs.Option.{option_map}
 use Rattle.std.proofs.lemmas.List.{length-map}
 use Rattle.std.proofs.lemmas.Option.{slice_get-map, slice_get-get_or, same_Some}
 use Rattle.verilog_tree.specs.Trees.{Links}
-use Rattle.verilog_sites.specs.declared.site.Site.{Site as CodeSite}
-use Rattle.verilog_sites.specs.View.{view_site}
-use Rattle.verilog_sites.specs.Sites.{Site, Module, Listed, Port, Wire, Assign, Instance, Named, Ordered, Assigned, Linked}
-use Rattle.verilog_sites.specs.Scope.{IsAt}
-use Rattle.bound_source.specs.Modules.{Setting}
-use Rattle.bound_source.specs.Faults.{IsKind}
-use Rattle.module_tree.specs.declared.kinds.Meaning.{Meaning}
-use Rattle.module_tree.specs.declared.kinds.Meaning.TheVariants as meanings
-use Rattle.kind_ports.specs.Meanings.{KindMeans, IsMeantAt}
+use Rattle.bind_sites.specs.declared.site.Site.{Site as CodeSite}
+use Rattle.bind_sites.specs.View.{view_site}
+use Rattle.bind_sites.specs.Sites.{Site, Module, Listed, Port, Wire, Assign, Instance, Named, Ordered, Assigned, Linked}
+use Rattle.bind_sites.specs.Scope.{IsAt}
+use Rattle.bind_forms.specs.Modules.{Setting}
+use Rattle.bind_forms.specs.Faults.{IsKind}
+use Rattle.bind_hierarchy.specs.declared.kinds.Meaning.{Meaning}
+use Rattle.bind_hierarchy.specs.declared.kinds.Meaning.TheVariants as meanings
+use Rattle.bind_kinds.specs.Meanings.{KindMeans, IsMeantAt}
 use Rattle.bind_faults.specs.Checks.{kind_of, IsUnknownKind}
 
 -- the site that the code reads

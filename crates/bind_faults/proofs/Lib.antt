@@ -10,3 +10,13 @@ pub mod RingNames
 pub mod Linked
 pub mod Flags
 pub mod PortLinks
+pub mod Lookups
+pub mod Unknown
+pub mod More
+pub mod Followed
+pub mod Used
+pub mod Sums
+pub mod OneWidth
+pub mod Sides
+pub mod Exprs
+pub mod Measures

@@ -1,10 +1,10 @@
 -- What is found in a module, by its list of sites.
 use Rattle.std.proofs.Common.{◌≤◌, ℕ, List, subst}
-use Rattle.verilog_sites.specs.Sites.{Site}
-use Rattle.bound_source.specs.Modules.{Setting}
-use Rattle.bound_source.specs.Faults.{HasSites}
-use Rattle.link_faults.specs.Sited.{InModule}
-use Rattle.link_faults.specs.Widths.{AreSingle}
+use Rattle.bind_sites.specs.Sites.{Site}
+use Rattle.bind_forms.specs.Modules.{Setting}
+use Rattle.bind_forms.specs.Faults.{HasSites}
+use Rattle.bind_faults.specs.Sited.{InModule}
+use Rattle.bind_faults.specs.Widths.{AreSingle}
 use Rattle.bind_faults.specs.Order.{IsClear}
 use Rattle.bind_faults.proofs.Places.{one_list, no_double}
 

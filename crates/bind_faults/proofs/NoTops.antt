@@ -1,12 +1,12 @@
 -- Why there is no top, and that nothing of this line stands where there is one.
 use Rattle.std.proofs.Common.{◌≡◌, ◌<◌, ◌⊎◌, inl, inr, ℕ, List, Option, Some, None, refl, sym, subst, arith}
-use Rattle.bound_source.specs.declared.fault.BindFault.{BindFault}
-use Rattle.bound_source.specs.declared.fault.BindFault.TheVariants as fault
-use Rattle.bound_source.specs.Modules.{Setting, IsModuleNamed, IsFree, IsTopBy, IsTop}
-use Rattle.bound_source.specs.Faults.{Place, IsBefore, HasNoTop, HasTwoTops}
-use Rattle.bound_source.specs.First.{Tops, StandsNowhere}
-use Rattle.module_tree.specs.Top.{IsFreeFault}
-use Rattle.module_tree.specs.declared.top.TopFault.TheVariants as why
+use Rattle.bind_forms.specs.declared.fault.BindFault.{BindFault}
+use Rattle.bind_forms.specs.declared.fault.BindFault.TheVariants as fault
+use Rattle.bind_forms.specs.Modules.{Setting, IsModuleNamed, IsFree, IsTopBy, IsTop}
+use Rattle.bind_forms.specs.Faults.{Place, IsBefore, HasNoTop, HasTwoTops}
+use Rattle.bind_forms.specs.First.{Tops, StandsNowhere}
+use Rattle.bind_hierarchy.specs.Top.{IsFreeFault}
+use Rattle.bind_hierarchy.specs.declared.top.TopFault.TheVariants as why
 use Rattle.bind_faults.specs.Tops.{IsTopless}
 
 -- nothing stands before the first place

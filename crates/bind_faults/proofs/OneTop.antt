@@ -8,8 +8,8 @@ use Rattle.std.proofs.lemmas.List.{length-map}
 use Rattle.verilog_tree.specs.declared.tree.Module.{Module as CodeModule}
 use Rattle.verilog_tree.specs.Trees.{Module}
 use Rattle.verilog_tree.specs.Views.{view_module}
-use Rattle.module_tree.specs.Modules as hierarchy
-use Rattle.bound_source.specs.Modules.{Setting, IsModuleNamed, MeansModule, IsTopBy, IsTop, IsReached}
+use Rattle.bind_hierarchy.specs.Modules as hierarchy
+use Rattle.bind_forms.specs.Modules.{Setting, IsModuleNamed, MeansModule, IsTopBy, IsTop, IsReached}
 
 -- a name means one module at most
 one_module : (setting : Setting) (name : List ℕ) (a b : ℕ) → MeansModule setting name a → MeansModule setting name b → a ≡ b

@@ -4,15 +4,15 @@ use Rattle.std.specs.Prelude.{slice_get}
 use Rattle.std.specs.List.{AllZip}
 use Rattle.std.proofs.lemmas.List.{take_more}
 use Rattle.std.proofs.lemmas.Option.{slice_get-get_or, slice_get_cases, same_Some}
-use Rattle.verilog_sites.specs.Sites.{Site, sites}
-use Rattle.module_scope.specs.declared.scope.Scope.{Scope}
-use Rattle.module_scope.specs.Scoped.{IsScope, HasNoDouble, sites_of}
-use Rattle.bound_source.specs.Modules.{Setting}
-use Rattle.bound_source.specs.Faults.{HasSites, HasReachedSites, Within}
-use Rattle.bound_source.specs.declared.fault.BindFault.TheVariants as fault
-use Rattle.bound_source.specs.First.{Duplicates}
-use Rattle.kind_ports.specs.declared.design.Design.{Design}
-use Rattle.kind_ports.specs.Design.{IsScopeOf, IsDesign, setting_of}
+use Rattle.bind_sites.specs.Sites.{Site, sites}
+use Rattle.bind_names.specs.declared.scope.Scope.{Scope}
+use Rattle.bind_names.specs.Scoped.{IsScope, HasNoDouble, sites_of}
+use Rattle.bind_forms.specs.Modules.{Setting}
+use Rattle.bind_forms.specs.Faults.{HasSites, HasReachedSites, Within}
+use Rattle.bind_forms.specs.declared.fault.BindFault.TheVariants as fault
+use Rattle.bind_forms.specs.First.{Duplicates}
+use Rattle.bind_kinds.specs.declared.netlist.Netlist.{Netlist}
+use Rattle.bind_kinds.specs.Netlist.{IsScopeOf, IsNetlist, setting_of}
 use Rattle.bind_faults.specs.Order.{IsClear}
 
 -- a module has one list of sites
@@ -32,19 +32,19 @@ zip_at {B = B} R (a ∷ xs) [] k y z e = absurd z
 zip_at {B = B} R (a ∷ xs) (b ∷ ys) zero y z e = (a, refl, subst (λ (v : B). R a v) (same_Some b y e) z.0)
 zip_at {B = B} R (a ∷ xs) (b ∷ ys) (suc k) y z e = zip_at R xs ys k y z.1 e
 
--- what the scope at a place of a design is
-pub record IsScopeAt (design : Design) (at : ℕ) (scope : Scope) : Type 0 where
+-- what the scope at a place of a netlist is
+pub record IsScopeAt (netlist : Netlist) (at : ℕ) (scope : Scope) : Type 0 where
   pub is_scope : IsScope scope
-  pub has : HasSites (setting_of design) at (sites_of scope)
+  pub has : HasSites (setting_of netlist) at (sites_of scope)
 
 -- the one that the code reads
-pub scope_at : (design : Design) (at : ℕ) (default : Scope) → IsDesign design → at < length design.scopes.now → IsScopeAt design at (get_or design.scopes.now at default)
-scope_at design at default is l =
-    let found = zip_at IsScopeOf (setting_of design).modules design.scopes.now at (get_or design.scopes.now at default) is.scopes (slice_get-get_or design.scopes.now at default l) in
+pub scope_at : (netlist : Netlist) (at : ℕ) (default : Scope) → IsNetlist netlist → at < length netlist.scopes.now → IsScopeAt netlist at (get_or netlist.scopes.now at default)
+scope_at netlist at default is l =
+    let found = zip_at IsScopeOf (setting_of netlist).modules netlist.scopes.now at (get_or netlist.scopes.now at default) is.scopes (slice_get-get_or netlist.scopes.now at default l) in
     record { is_scope = found.2.is_scope; has = record { owner = found.0; there = found.1; sites_are = found.2.sites_are } }
 
-pub scopes_count : (design : Design) → IsDesign design → length (setting_of design).modules ≡ length design.scopes.now
-scopes_count design is = zip_length IsScopeOf (setting_of design).modules design.scopes.now is.scopes
+pub scopes_count : (netlist : Netlist) → IsNetlist netlist → length (setting_of netlist).modules ≡ length netlist.scopes.now
+scopes_count netlist is = zip_length IsScopeOf (setting_of netlist).modules netlist.scopes.now is.scopes
 
 -- a reached module of which nothing is given twice
 pub no_double : (setting : Setting) (count at : ℕ) (all : List Site) → 1 ≤ count → IsClear setting count → HasReachedSites setting at all → HasNoDouble all (length all)

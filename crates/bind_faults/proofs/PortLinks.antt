@@ -2,11 +2,11 @@
 use Rattle.std.proofs.Common.{◌≡◌, ℕ, List, Option, Some, None, Bor, ap, subst}
 use Rattle.std.specs.Option.{option_map}
 use Rattle.std.proofs.lemmas.Option.{slice_get_within}
-use Rattle.verilog_sites.specs.Sites.{Site, Named}
-use Rattle.module_scope.specs.Linked.{IsFirstPortTwice}
-use Rattle.bound_source.specs.declared.fault.BindFault.{BindFault}
-use Rattle.bound_source.specs.declared.fault.BindFault.TheVariants as fault
-use Rattle.bound_source.specs.Modules.{Setting}
+use Rattle.bind_sites.specs.Sites.{Site, Named}
+use Rattle.bind_names.specs.Linked.{IsFirstPortTwice}
+use Rattle.bind_forms.specs.declared.fault.BindFault.{BindFault}
+use Rattle.bind_forms.specs.declared.fault.BindFault.TheVariants as fault
+use Rattle.bind_forms.specs.Modules.{Setting}
 use Rattle.bind_faults.specs.declared.check.Check.TheVariants.{PortsTwice}
 use Rattle.bind_faults.specs.Checks.{StandsIn, IsFirstIn}
 

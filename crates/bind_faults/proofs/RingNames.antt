@@ -7,13 +7,13 @@ use Rattle.std.proofs.lemmas.Bool.{cases_lt}
 use Rattle.std.proofs.lemmas.List.Elements.{All-cons, All-nil}
 use Rattle.std.proofs.lemmas.Option.{slice_get_within}
 use Rattle.verilog_tree.specs.Trees.{Module}
-use Rattle.module_tree.specs.Modules as hierarchy
-use Rattle.module_tree.specs.Modules.{IsChain, IsOnRing}
-use Rattle.module_tree.specs.Reach.{IsFirstRing}
-use Rattle.bound_source.specs.declared.fault.BindFault.TheVariants as fault
-use Rattle.bound_source.specs.Modules.{Setting, IsModuleNamed, IsTop, IsReached}
-use Rattle.bound_source.specs.Faults.{Place, IsRing}
-use Rattle.bound_source.specs.First.{Rings, StandsNowhere}
+use Rattle.bind_hierarchy.specs.Modules as hierarchy
+use Rattle.bind_hierarchy.specs.Modules.{IsChain, IsOnRing}
+use Rattle.bind_hierarchy.specs.Reach.{IsFirstRing}
+use Rattle.bind_forms.specs.declared.fault.BindFault.TheVariants as fault
+use Rattle.bind_forms.specs.Modules.{Setting, IsModuleNamed, IsTop, IsReached}
+use Rattle.bind_forms.specs.Faults.{Place, IsRing}
+use Rattle.bind_forms.specs.First.{Rings, StandsNowhere}
 use Rattle.bind_faults.specs.Order.{IsFirstAt}
 use Rattle.bind_faults.proofs.OneTop.{one_top}
 

@@ -2,11 +2,11 @@
 use Rattle.std.proofs.Common.{◌≡◌, ◌<◌, ◌≤◌, ◌+◌, inl, inr, ℕ, List, length, subst, arith}
 use Rattle.std.proofs.lemmas.Bool.{cases_lt}
 use Rattle.std.proofs.lemmas.Option.{slice_get_within}
-use Rattle.verilog_sites.specs.Sites.{Site}
-use Rattle.bound_source.specs.declared.fault.BindFault.{BindFault}
-use Rattle.bound_source.specs.Modules.{Setting, IsReached}
-use Rattle.bound_source.specs.Faults.{Place, HasSites, HasReachedSites}
-use Rattle.bound_source.specs.First.{StandsAt, StandsNowhere}
+use Rattle.bind_sites.specs.Sites.{Site}
+use Rattle.bind_forms.specs.declared.fault.BindFault.{BindFault}
+use Rattle.bind_forms.specs.Modules.{Setting, IsReached}
+use Rattle.bind_forms.specs.Faults.{Place, HasSites, HasReachedSites}
+use Rattle.bind_forms.specs.First.{StandsAt, StandsNowhere}
 use Rattle.bind_faults.specs.declared.check.Check.{Check}
 use Rattle.bind_faults.specs.declared.check.Check.TheVariants.{PortsTwice, EachSite}
 use Rattle.bind_faults.specs.declared.check.SiteCheck.TheVariants as site

@@ -1,14 +1,14 @@
 -- The causes that stand at sites of reached modules, each looked for module by module.
 use Rattle.std.specs.Prelude.{◌≡◌, ◌≢◌, ℕ, ◌<◌, Bool, true, false, ◌↔◌, List, length, slice_index_or, Option, Some, None, Result}
 use Rattle.verilog_tree.specs.Trees.{Links}
-use Rattle.verilog_sites.specs.Sites.{Site, Instance}
-use Rattle.verilog_sites.specs.Scope.{IsAt}
-use Rattle.verilog_sites.specs.Refused.{IsPortTwice, IsUnknownName, IsOutOfRange, IsTooWide}
-use Rattle.bound_source.specs.declared.fault.BindFault.{BindFault}
-use Rattle.bound_source.specs.declared.fault.BindFault.TheVariants as fault
-use Rattle.bound_source.specs.Modules.{Setting, IsReached}
-use Rattle.bound_source.specs.Faults.{IsKind, IsUnknownPort, HasTooMany, HasWidths}
-use Rattle.bound_source.specs.First as line
+use Rattle.bind_sites.specs.Sites.{Site, Instance}
+use Rattle.bind_sites.specs.Scope.{IsAt}
+use Rattle.bind_sites.specs.Refused.{IsPortTwice, IsUnknownName, IsOutOfRange, IsTooWide}
+use Rattle.bind_forms.specs.declared.fault.BindFault.{BindFault}
+use Rattle.bind_forms.specs.declared.fault.BindFault.TheVariants as fault
+use Rattle.bind_forms.specs.Modules.{Setting, IsReached}
+use Rattle.bind_forms.specs.Faults.{IsKind, IsUnknownPort, HasTooMany, HasWidths}
+use Rattle.bind_forms.specs.First as line
 use Rattle.bind_faults.specs.declared.check.Check.{Check}
 use Rattle.bind_faults.specs.declared.check.Check.TheVariants.{PortsTwice, EachSite}
 use Rattle.bind_faults.specs.declared.check.SiteCheck.{SiteCheck}

@@ -1,12 +1,12 @@
 -- Names that are given twice, by where they stand.
 use Rattle.std.specs.Prelude.{◌≡◌, ℕ, ◌+◌, ◌<◌, ◌==◌, nat_lt, Bool, ◌&&◌, ◌||◌, if◌then◌else◌, List, Option, Some, None, MatchOption}
 use Rattle.std.specs.Option.{option_map}
-use Rattle.verilog_sites.specs.Sites.{Site}
-use Rattle.verilog_sites.specs.Again.{IsAgain, IsBitAgain}
-use Rattle.module_scope.specs.declared.scope.Scope.{Scope}
-use Rattle.module_scope.specs.Scoped.{HasNoDouble, IsFirstDouble}
-use Rattle.bound_source.specs.Modules.{Setting, IsModuleNamed, IsCellNamed}
-use Rattle.bound_source.specs.Faults.{Place, IsBefore, HasSites, HasReachedSites}
+use Rattle.bind_sites.specs.Sites.{Site}
+use Rattle.bind_sites.specs.Again.{IsAgain, IsBitAgain}
+use Rattle.bind_names.specs.declared.scope.Scope.{Scope}
+use Rattle.bind_names.specs.Scoped.{HasNoDouble, IsFirstDouble}
+use Rattle.bind_forms.specs.Modules.{Setting, IsModuleNamed, IsCellNamed}
+use Rattle.bind_forms.specs.Faults.{Place, IsBefore, HasSites, HasReachedSites}
 use Rattle.bind_faults.specs.declared.doubles.Double.{Double}
 
 -- where a name stands

@@ -2,5 +2,8 @@ pub mod Order
 pub mod Checks
 pub mod Doubles
 pub mod Tops
-pub mod Design
+pub mod Told
 pub mod Reached
+pub mod Sited
+pub mod Looked
+pub mod Widths

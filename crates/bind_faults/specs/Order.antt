@@ -1,10 +1,10 @@
 -- The causes by their order, and what a look for one of them answers.
 use Rattle.std.specs.Prelude.{◌≢◌, ℕ, ◌<◌, Result, MatchResult}
-use Rattle.bound_source.specs.declared.fault.BindFault.{BindFault}
-use Rattle.bound_source.specs.declared.fault.BindFault.TheVariants.{Memory}
-use Rattle.bound_source.specs.Modules.{Setting}
-use Rattle.bound_source.specs.Faults.{Place, IsBefore}
-use Rattle.bound_source.specs.First.{Line, Duplicates, Tops, Kinds, Rings, UnknownPorts, PortsTwice, TooManyLinks, UnknownNames, Ranges, Widths, WidthLimits, StandsAt, StandsNowhere}
+use Rattle.bind_forms.specs.declared.fault.BindFault.{BindFault}
+use Rattle.bind_forms.specs.declared.fault.BindFault.TheVariants.{Memory}
+use Rattle.bind_forms.specs.Modules.{Setting}
+use Rattle.bind_forms.specs.Faults.{Place, IsBefore}
+use Rattle.bind_forms.specs.First.{Line, Duplicates, Tops, Kinds, Rings, UnknownPorts, PortsTwice, TooManyLinks, UnknownNames, Ranges, Widths, WidthLimits, StandsAt, StandsNowhere}
 
 -- the place of a cause among all
 abbrev pub rank : Line → ℕ

@@ -1,7 +1,7 @@
 -- What is answered where there is no fault.
 use Rattle.std.specs.Prelude.{◌≢◌, ◌↔◌, ℕ, ◌<◌, length, take, slice_index}
 use Rattle.std.specs.List.{AllPairs, Contains}
-use Rattle.bound_source.specs.Modules.{Setting, IsTop, IsReached, Instantiates}
+use Rattle.bind_forms.specs.Modules.{Setting, IsTop, IsReached, Instantiates}
 use Rattle.bind_faults.specs.declared.find.Reached.{Reached}
 use Rattle.bind_faults.specs.Checks.{AreReached}
 

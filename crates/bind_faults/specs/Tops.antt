@@ -1,8 +1,8 @@
 -- Why there is no top.
 use Rattle.std.specs.Prelude.{ℕ}
-use Rattle.bound_source.specs.declared.fault.BindFault.{BindFault}
-use Rattle.bound_source.specs.Modules.{Setting, IsTop}
-use Rattle.bound_source.specs.First.{Tops}
+use Rattle.bind_forms.specs.declared.fault.BindFault.{BindFault}
+use Rattle.bind_forms.specs.Modules.{Setting, IsTop}
+use Rattle.bind_forms.specs.First.{Tops}
 use Rattle.bind_faults.specs.Order.{IsFirstAt}
 
 -- there is no top, for this cause

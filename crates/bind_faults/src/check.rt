@@ -1,21 +1,22 @@
 //! What is looked for at the sites of a module, site by site.
 
 ghost use Rattle.std.specs.Prelude.{◌<◌, List, length};
-ghost use Rattle.verilog_sites.specs.Sites.{Site};
-ghost use Rattle.module_scope.specs.Scoped.{IsScope, HasNoDouble, sites_of};
-ghost use Rattle.bound_source.specs.Modules.{Setting, IsReached};
-ghost use Rattle.bound_source.specs.Faults.{HasSites, HasReachedSites};
-ghost use Rattle.kind_ports.specs.Design.{setting_of};
+ghost use Rattle.bind_sites.specs.Sites.{Site};
+ghost use Rattle.bind_names.specs.Scoped.{IsScope, HasNoDouble, sites_of};
+ghost use Rattle.bind_forms.specs.Modules.{Setting, IsReached};
+ghost use Rattle.bind_forms.specs.Faults.{HasSites, HasReachedSites};
+ghost use Rattle.bind_kinds.specs.Netlist.{setting_of};
 ghost use Rattle.bind_faults.specs.declared.check.SiteCheck.TheVariants.{UnknownPorts, TooManyLinks, UnknownNames, Ranges, Widths, WidthLimits};
 ghost use Rattle.bind_faults.specs.Order.{rank, IsClear};
 ghost use Rattle.bind_faults.specs.Checks.{site_line, AnswersAt};
-ghost use Rattle.bind_faults.specs.Design.{IsTold};
+ghost use Rattle.bind_faults.specs.Told.{IsTold};
 
 use crate::kinds::unknown_kind;
-use bound_source::BindFault;
-use kind_ports::Design;
-use link_faults::{fits, too_many, unknown_port, width};
-use module_scope::Scope;
+use crate::ports::{too_many, unknown_port};
+use crate::widths::{fits, width};
+use bind_forms::BindFault;
+use bind_kinds::Netlist;
+use bind_names::Scope;
 use rsfq_ids::name::Name;
 use std::alloc::Global;
 
@@ -43,25 +44,25 @@ impl SiteCheck {
     pub(crate) fn look_at<'a>(
         self,
         alloc: Global,
-        design: &Design<'_, 'a>,
+        netlist: &Netlist<'_, 'a>,
         scope: &Scope<'_, 'a>,
         at: usize,
         site: usize,
     ) -> Result<(), BindFault>
-        requires told { IsTold design.now }
+        requires told { IsTold netlist.now }
         requires scope { IsScope scope.now }
-        requires sites { HasReachedSites (setting_of design.now) at (sites_of scope.now) }
+        requires sites { HasReachedSites (setting_of netlist.now) at (sites_of scope.now) }
         requires there { site < length (sites_of scope.now) }
-        requires before { IsClear (setting_of design.now) (rank (site_line self)) }
-        ensures { AnswersAt self (setting_of design.now) (sites_of scope.now) site result }
+        requires before { IsClear (setting_of netlist.now) (rank (site_line self)) }
+        ensures { AnswersAt self (setting_of netlist.now) (sites_of scope.now) site result }
     {
         match self {
-            SiteCheck::Kinds => unknown_kind(alloc, design, scope, at, site),
-            SiteCheck::UnknownPorts => refuse_port(alloc, design, at, site),
-            SiteCheck::TooManyLinks => refuse_links(design, at, site),
+            SiteCheck::Kinds => unknown_kind(alloc, netlist, scope, at, site),
+            SiteCheck::UnknownPorts => refuse_port(alloc, netlist, at, site),
+            SiteCheck::TooManyLinks => refuse_links(netlist, at, site),
             SiteCheck::UnknownNames => refuse_name(alloc, scope, site),
             SiteCheck::Ranges => refuse_range(alloc, scope, site),
-            SiteCheck::Widths => refuse_width(design, at, site),
+            SiteCheck::Widths => refuse_width(netlist, at, site),
             SiteCheck::WidthLimits => refuse_port_width(scope, site),
         }
     }
@@ -70,41 +71,41 @@ impl SiteCheck {
 /// A port without a direction, a direction without a port, or a link by name without such a port.
 fn refuse_port(
     alloc: Global,
-    design: &Design<'_, '_>,
+    netlist: &Netlist<'_, '_>,
     at: usize,
     site: usize,
 ) -> Result<(), BindFault>
-    requires { IsTold design.now }
-    ensures { (all : List Site) → HasSites (setting_of design.now) at all → AnswersAt UnknownPorts (setting_of design.now) all site result }
+    requires { IsTold netlist.now }
+    ensures { (all : List Site) → HasSites (setting_of netlist.now) at all → AnswersAt UnknownPorts (setting_of netlist.now) all site result }
 {
-    match unknown_port(design, at, site) {
+    match unknown_port(netlist, at, site) {
         Some(name) => Err(BindFault::UnknownPort(Name::of(alloc, name)?)),
         None => Ok(()),
     }
 }
 
 /// More links by order than ports.
-fn refuse_links(design: &Design<'_, '_>, at: usize, site: usize) -> Result<(), BindFault>
-    requires { IsTold design.now }
-    ensures { (all : List Site) → HasSites (setting_of design.now) at all → AnswersAt TooManyLinks (setting_of design.now) all site result }
+fn refuse_links(netlist: &Netlist<'_, '_>, at: usize, site: usize) -> Result<(), BindFault>
+    requires { IsTold netlist.now }
+    ensures { (all : List Site) → HasSites (setting_of netlist.now) at all → AnswersAt TooManyLinks (setting_of netlist.now) all site result }
 {
-    match too_many(design, at, site) {
+    match too_many(netlist, at, site) {
         Some((have, want)) => Err(BindFault::TooMany(have, want)),
         None => Ok(()),
     }
 }
 
 /// A link or an assign whose sides differ in width.
-fn refuse_width(design: &Design<'_, '_>, at: usize, site: usize) -> Result<(), BindFault>
-    requires told { IsTold design.now }
-    requires reached { IsReached (setting_of design.now) at }
-    requires before { IsClear (setting_of design.now) (rank (site_line Widths)) }
-    ensures { (all : List Site) → HasSites (setting_of design.now) at all → AnswersAt Widths (setting_of design.now) all site result }
+fn refuse_width(netlist: &Netlist<'_, '_>, at: usize, site: usize) -> Result<(), BindFault>
+    requires told { IsTold netlist.now }
+    requires reached { IsReached (setting_of netlist.now) at }
+    requires before { IsClear (setting_of netlist.now) (rank (site_line Widths)) }
+    ensures { (all : List Site) → HasSites (setting_of netlist.now) at all → AnswersAt Widths (setting_of netlist.now) all site result }
 {
-    if !fits(design, at) {
+    if !fits(netlist, at) {
         return Err(BindFault::Memory);
     }
-    match width(design, at, site) {
+    match width(netlist, at, site) {
         Some((have, want)) => Err(BindFault::Width(have, want)),
         None => Ok(()),
     }

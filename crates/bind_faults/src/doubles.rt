@@ -2,22 +2,21 @@
 
 ghost use Rattle.std.specs.Prelude.{◌+◌, ◌≡◌, ◌<◌, ℕ, length, IfOk};
 ghost use Rattle.std.specs.Option.{option_map};
-ghost use Rattle.module_scope.specs.Scoped.{HasNoDouble, sites_of};
-ghost use Rattle.bound_source.specs.declared.fault.BindFault.TheVariants.{DuplicateName};
-ghost use Rattle.bound_source.specs.Modules.{IsTop};
+ghost use Rattle.bind_names.specs.Scoped.{HasNoDouble, sites_of};
+ghost use Rattle.bind_forms.specs.declared.fault.BindFault.TheVariants.{DuplicateName};
+ghost use Rattle.bind_forms.specs.Modules.{IsTop};
 ghost use Rattle.bind_faults.specs.declared.doubles.Double.{Double};
-ghost use Rattle.bound_source.specs.First.{Duplicates, IsFirstFault};
-ghost use Rattle.kind_ports.specs.Design.{setting_of};
+ghost use Rattle.bind_forms.specs.First.{Duplicates, IsFirstFault};
+ghost use Rattle.bind_kinds.specs.Netlist.{setting_of};
 ghost use Rattle.bind_faults.specs.Order.{rank, IsClear, Answers};
 ghost use Rattle.bind_faults.specs.Checks.{AreReached};
 ghost use Rattle.bind_faults.specs.Doubles.{IsFirstOf, IsKindTwice, IsWithin, IsTopBit, TellsDouble, IsDoubleAt, is_before, first_of};
-ghost use Rattle.bind_faults.specs.Design.{IsTold};
+ghost use Rattle.bind_faults.specs.Told.{IsTold};
 
-use bound_source::BindFault;
-use kind_ports::Design;
-use module_scope::Scope;
-use module_tree::first_duplicate;
-use port_bits::find_bit_again;
+use bind_forms::BindFault;
+use bind_hierarchy::first_duplicate;
+use bind_kinds::Netlist;
+use bind_names::{Scope, find_bit_again};
 use rsfq_ids::list::NoMemory;
 use rsfq_ids::name::Name;
 use std::alloc::Global;
@@ -51,14 +50,14 @@ fn first_of(one: Option<Double>, other: Option<Double>) -> Option<Double>
 }
 
 /// The first module that has the name of an earlier one, or of a cell.
-fn kind_twice(alloc: Global, design: &Design<'_, '_>) -> Result<Option<Double>, NoMemory>
-    requires { IsTold design.now }
-    ensures { IfOk result (IsFirstOf (IsKindTwice (setting_of design.now))) }
+fn kind_twice(alloc: Global, netlist: &Netlist<'_, '_>) -> Result<Option<Double>, NoMemory>
+    requires { IsTold netlist.now }
+    ensures { IfOk result (IsFirstOf (IsKindTwice (setting_of netlist.now))) }
 {
-    let Some(at) = first_duplicate(design.source, design.kinds) else {
+    let Some(at) = first_duplicate(netlist.source, netlist.kinds) else {
         return Ok(None);
     };
-    match design.source.modules.get(at) {
+    match netlist.source.modules.get(at) {
         Some(module) => Ok(Some(Double {
             at,
             site: 0,
@@ -69,15 +68,15 @@ fn kind_twice(alloc: Global, design: &Design<'_, '_>) -> Result<Option<Double>, 
 }
 
 /// The first name that is given twice within the module at a place, where it is reached.
-fn double_at<'a>(design: &Design<'_, 'a>, reached: &[bool], at: usize) -> Option<(usize, &'a str)>
-    requires told { IsTold design.now }
-    requires reached { AreReached (setting_of design.now) reached.now }
-    requires there { at < length design.now.scopes.now }
+fn double_at<'a>(netlist: &Netlist<'_, 'a>, reached: &[bool], at: usize) -> Option<(usize, &'a str)>
+    requires told { IsTold netlist.now }
+    requires reached { AreReached (setting_of netlist.now) reached.now }
+    requires there { at < length netlist.now.scopes.now }
     requires flag { at < length reached.now }
-    ensures { IsDoubleAt (setting_of design.now) at (option_map (λ (site, name). (site, name.now)) result) }
+    ensures { IsDoubleAt (setting_of netlist.now) at (option_map (λ (site, name). (site, name.now)) result) }
 {
     if reached[at] {
-        design.scopes[at].double
+        netlist.scopes[at].double
     } else {
         None
     }
@@ -86,15 +85,15 @@ fn double_at<'a>(design: &Design<'_, 'a>, reached: &[bool], at: usize) -> Option
 /// The first name that is given twice within a reached module.
 fn name_twice(
     alloc: Global,
-    design: &Design<'_, '_>,
+    netlist: &Netlist<'_, '_>,
     reached: &[bool],
 ) -> Result<Option<Double>, NoMemory>
-    requires told { IsTold design.now }
-    requires reached { AreReached (setting_of design.now) reached.now }
-    ensures { IfOk result (IsFirstOf (IsWithin (setting_of design.now))) }
+    requires told { IsTold netlist.now }
+    requires reached { AreReached (setting_of netlist.now) reached.now }
+    ensures { IfOk result (IsFirstOf (IsWithin (setting_of netlist.now))) }
 {
-    for at in 0..design.scopes.len() {
-        if let Some((site, name)) = double_at(design, reached, at) {
+    for at in 0..netlist.scopes.len() {
+        if let Some((site, name)) = double_at(netlist, reached, at) {
             return Ok(Some(Double {
                 at,
                 site,
@@ -118,12 +117,16 @@ fn single_until(scope: &Scope<'_, '_>) -> usize
 }
 
 /// The first name that two bits of a module's ports have, before any name in the module is given twice.
-fn bit_twice(alloc: Global, design: &Design<'_, '_>, top: usize) -> Result<Option<Double>, NoMemory>
-    requires told { IsTold design.now }
-    requires there { top < length design.now.scopes.now }
-    ensures { IfOk result (IsFirstOf (IsTopBit (setting_of design.now) top)) }
+fn bit_twice(
+    alloc: Global,
+    netlist: &Netlist<'_, '_>,
+    top: usize,
+) -> Result<Option<Double>, NoMemory>
+    requires told { IsTold netlist.now }
+    requires there { top < length netlist.now.scopes.now }
+    ensures { IfOk result (IsFirstOf (IsTopBit (setting_of netlist.now) top)) }
 {
-    let scope = &design.scopes[top];
+    let scope = &netlist.scopes[top];
     let limit = single_until(scope);
     match find_bit_again(alloc, scope.sites, limit)? {
         Some((site, name)) => Ok(Some(Double {
@@ -151,27 +154,27 @@ fn refuse(alloc: Global, double: Option<Double>) -> Result<(), BindFault>
 /// Looks for names that are given twice, where there is a top.
 pub(crate) fn refuse_doubles(
     alloc: Global,
-    design: &Design<'_, '_>,
+    netlist: &Netlist<'_, '_>,
     reached: &[bool],
     top: usize,
 ) -> Result<(), BindFault>
-    requires told { IsTold design.now }
-    requires reached { AreReached (setting_of design.now) reached.now }
-    requires top { IsTop (setting_of design.now) top }
-    requires there { top < length design.now.scopes.now }
-    ensures { Answers result (IsClear (setting_of design.now) (rank Duplicates + 1)) (IsFirstFault (setting_of design.now)) }
+    requires told { IsTold netlist.now }
+    requires reached { AreReached (setting_of netlist.now) reached.now }
+    requires top { IsTop (setting_of netlist.now) top }
+    requires there { top < length netlist.now.scopes.now }
+    ensures { Answers result (IsClear (setting_of netlist.now) (rank Duplicates + 1)) (IsFirstFault (setting_of netlist.now)) }
 {
-    let kind = kind_twice(alloc, design)?;
-    let name = name_twice(alloc, design, reached)?;
-    let bit = bit_twice(alloc, design, top)?;
+    let kind = kind_twice(alloc, netlist)?;
+    let name = name_twice(alloc, netlist, reached)?;
+    let bit = bit_twice(alloc, netlist, top)?;
     refuse(alloc, first_of(first_of(kind, name), bit))
 }
 
 /// Looks for names that are given twice, where there is no top.
-pub(crate) fn refuse_kinds(alloc: Global, design: &Design<'_, '_>) -> Result<(), BindFault>
-    requires told { IsTold design.now }
-    requires none { (top : ℕ) → ¬ IsTop (setting_of design.now) top }
-    ensures { Answers result (IsClear (setting_of design.now) (rank Duplicates + 1)) (IsFirstFault (setting_of design.now)) }
+pub(crate) fn refuse_kinds(alloc: Global, netlist: &Netlist<'_, '_>) -> Result<(), BindFault>
+    requires told { IsTold netlist.now }
+    requires none { (top : ℕ) → ¬ IsTop (setting_of netlist.now) top }
+    ensures { Answers result (IsClear (setting_of netlist.now) (rank Duplicates + 1)) (IsFirstFault (setting_of netlist.now)) }
 {
-    refuse(alloc, kind_twice(alloc, design)?)
+    refuse(alloc, kind_twice(alloc, netlist)?)
 }

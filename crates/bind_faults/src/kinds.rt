@@ -2,22 +2,22 @@
 
 ghost use Rattle.std.specs.Prelude.{◌≡◌, ◌<◌, ℕ, List, length, IfSome, IfNone};
 ghost use Rattle.std.specs.Option.{option_map};
-ghost use Rattle.verilog_sites.specs.View.{view_site};
-ghost use Rattle.module_scope.specs.Scoped.{sites_of};
-ghost use Rattle.bound_source.specs.Modules.{Setting};
-ghost use Rattle.bound_source.specs.Faults.{IsKind, HasSites};
-ghost use Rattle.kind_ports.specs.Design.{setting_of};
-ghost use Rattle.kind_ports.specs.Meanings.{IsMeant};
+ghost use Rattle.bind_sites.specs.View.{view_site};
+ghost use Rattle.bind_names.specs.Scoped.{sites_of};
+ghost use Rattle.bind_forms.specs.Modules.{Setting};
+ghost use Rattle.bind_forms.specs.Faults.{IsKind, HasSites};
+ghost use Rattle.bind_kinds.specs.Netlist.{setting_of};
+ghost use Rattle.bind_kinds.specs.Meanings.{IsMeant};
 ghost use Rattle.bind_faults.specs.declared.check.SiteCheck.TheVariants.{Kinds};
 ghost use Rattle.bind_faults.specs.Checks.{AnswersAt, IsUnknownKind, kind_of};
-ghost use Rattle.bind_faults.specs.Design.{IsTold};
+ghost use Rattle.bind_faults.specs.Told.{IsTold};
 
-use bound_source::BindFault;
-use kind_ports::{Design, KindName};
-use module_scope::Scope;
+use bind_forms::BindFault;
+use bind_kinds::{KindName, Netlist};
+use bind_names::Scope;
+use bind_sites::Site;
 use rsfq_ids::name::Name;
 use std::alloc::Global;
-use verilog_sites::Site;
 
 /// The kind of the instance that a site is.
 fn instance_kind<'a>(site: &Site<'a>) -> Option<&'a str>
@@ -42,40 +42,40 @@ fn unless_kind<'k>(kind: KindName<'k>) -> Option<&'k str>
 
 /// The kind of an instance at a site of the module at a place of the text, where it is neither a module nor a cell.
 fn find_unknown_kind<'a>(
-    design: &Design<'_, 'a>,
+    netlist: &Netlist<'_, 'a>,
     scope: &Scope<'_, 'a>,
     at: usize,
     site: usize,
 ) -> Option<&'a str>
-    requires told { IsTold design.now }
-    requires sites { HasSites (setting_of design.now) at (sites_of scope.now) }
+    requires told { IsTold netlist.now }
+    requires sites { HasSites (setting_of netlist.now) at (sites_of scope.now) }
     requires there { site < length (sites_of scope.now) }
-    ensures found { IfSome result (λ kind. IsUnknownKind (setting_of design.now) (sites_of scope.now) site kind.now) }
-    ensures none { IfNone result ((kind : List ℕ) → ¬ IsUnknownKind (setting_of design.now) (sites_of scope.now) site kind) }
+    ensures found { IfSome result (λ kind. IsUnknownKind (setting_of netlist.now) (sites_of scope.now) site kind.now) }
+    ensures none { IfNone result ((kind : List ℕ) → ¬ IsUnknownKind (setting_of netlist.now) (sites_of scope.now) site kind) }
 {
     match instance_kind(&scope.sites[site]) {
         Some(name) => unless_kind(KindName {
             name,
-            meaning: design.meaning_at(at, site),
+            meaning: netlist.meaning_at(at, site),
         }),
         None => None,
     }
 }
 
 /// An instance of a kind that is neither a module nor a cell.
-pub fn unknown_kind<'a>(
+pub(crate) fn unknown_kind<'a>(
     alloc: Global,
-    design: &Design<'_, 'a>,
+    netlist: &Netlist<'_, 'a>,
     scope: &Scope<'_, 'a>,
     at: usize,
     site: usize,
 ) -> Result<(), BindFault>
-    requires told { IsTold design.now }
-    requires sites { HasSites (setting_of design.now) at (sites_of scope.now) }
+    requires told { IsTold netlist.now }
+    requires sites { HasSites (setting_of netlist.now) at (sites_of scope.now) }
     requires there { site < length (sites_of scope.now) }
-    ensures { AnswersAt Kinds (setting_of design.now) (sites_of scope.now) site result }
+    ensures { AnswersAt Kinds (setting_of netlist.now) (sites_of scope.now) site result }
 {
-    match find_unknown_kind(design, scope, at, site) {
+    match find_unknown_kind(netlist, scope, at, site) {
         Some(kind) => Err(BindFault::NoSuchModule(Name::of(alloc, kind)?)),
         None => Ok(()),
     }

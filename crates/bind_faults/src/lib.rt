@@ -5,11 +5,11 @@ mod check;
 mod doubles;
 mod find;
 mod kinds;
+mod lookup;
+mod ports;
 mod rings;
 mod scan;
 mod tops;
+mod widths;
 
 pub use find::{Reached, find_fault};
-
-#[cfg(test)]
-mod tests;

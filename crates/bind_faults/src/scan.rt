@@ -1,21 +1,21 @@
 //! A cause is looked for over the reached modules.
 
 ghost use Rattle.std.specs.Prelude.{◌+◌, ◌<◌, List, length};
-ghost use Rattle.verilog_sites.specs.Sites.{Site};
-ghost use Rattle.bound_source.specs.Modules.{Setting, IsReached};
-ghost use Rattle.module_scope.specs.Scoped.{IsScope, sites_of};
-ghost use Rattle.bound_source.specs.Faults.{HasSites, HasReachedSites};
-ghost use Rattle.bound_source.specs.First.{IsFirstFault};
-ghost use Rattle.kind_ports.specs.Design.{setting_of};
+ghost use Rattle.bind_sites.specs.Sites.{Site};
+ghost use Rattle.bind_forms.specs.Modules.{Setting, IsReached};
+ghost use Rattle.bind_names.specs.Scoped.{IsScope, sites_of};
+ghost use Rattle.bind_forms.specs.Faults.{HasSites, HasReachedSites};
+ghost use Rattle.bind_forms.specs.First.{IsFirstFault};
+ghost use Rattle.bind_kinds.specs.Netlist.{setting_of};
 ghost use Rattle.bind_faults.specs.declared.check.Check.TheVariants.{PortsTwice, EachSite};
 ghost use Rattle.bind_faults.specs.Order.{rank, IsClear, Answers};
 ghost use Rattle.bind_faults.specs.Checks.{site_line, line_of, AnswersIn, AreReached};
-ghost use Rattle.bind_faults.specs.Design.{IsTold};
+ghost use Rattle.bind_faults.specs.Told.{IsTold};
 
 use crate::check::{Check, SiteCheck};
-use bound_source::BindFault;
-use kind_ports::Design;
-use module_scope::Scope;
+use bind_forms::BindFault;
+use bind_kinds::Netlist;
+use bind_names::Scope;
 use rsfq_ids::name::Name;
 use std::alloc::Global;
 
@@ -24,18 +24,18 @@ impl SiteCheck {
     fn look_in<'a>(
         self,
         alloc: Global,
-        design: &Design<'_, 'a>,
+        netlist: &Netlist<'_, 'a>,
         scope: &Scope<'_, 'a>,
         at: usize,
     ) -> Result<(), BindFault>
-        requires told { IsTold design.now }
+        requires told { IsTold netlist.now }
         requires scope { IsScope scope.now }
-        requires sites { HasReachedSites (setting_of design.now) at (sites_of scope.now) }
-        requires before { IsClear (setting_of design.now) (rank (site_line self)) }
-        ensures { AnswersIn (EachSite self) (setting_of design.now) (sites_of scope.now) result }
+        requires sites { HasReachedSites (setting_of netlist.now) at (sites_of scope.now) }
+        requires before { IsClear (setting_of netlist.now) (rank (site_line self)) }
+        ensures { AnswersIn (EachSite self) (setting_of netlist.now) (sites_of scope.now) result }
     {
         for site in 0..scope.sites.len() {
-            self.look_at(alloc, design, scope, at, site)?;
+            self.look_at(alloc, netlist, scope, at, site)?;
         }
         Ok(())
     }
@@ -53,17 +53,17 @@ fn refuse_port_twice(alloc: Global, scope: &Scope<'_, '_>) -> Result<(), BindFau
 
 impl Check {
     /// Looks for the cause in a reached module.
-    fn look_in(self, alloc: Global, design: &Design<'_, '_>, at: usize) -> Result<(), BindFault>
-        requires told { IsTold design.now }
-        requires reached { IsReached (setting_of design.now) at }
-        requires there { at < length design.now.scopes.now }
-        requires before { IsClear (setting_of design.now) (rank (line_of self)) }
-        ensures { (all : List Site) → HasSites (setting_of design.now) at all → AnswersIn self (setting_of design.now) all result }
+    fn look_in(self, alloc: Global, netlist: &Netlist<'_, '_>, at: usize) -> Result<(), BindFault>
+        requires told { IsTold netlist.now }
+        requires reached { IsReached (setting_of netlist.now) at }
+        requires there { at < length netlist.now.scopes.now }
+        requires before { IsClear (setting_of netlist.now) (rank (line_of self)) }
+        ensures { (all : List Site) → HasSites (setting_of netlist.now) at all → AnswersIn self (setting_of netlist.now) all result }
     {
-        let scope = &design.scopes[at];
+        let scope = &netlist.scopes[at];
         match self {
             Check::PortsTwice => refuse_port_twice(alloc, scope),
-            Check::EachSite(check) => check.look_in(alloc, design, scope, at),
+            Check::EachSite(check) => check.look_in(alloc, netlist, scope, at),
         }
     }
 
@@ -71,17 +71,17 @@ impl Check {
     pub(crate) fn look_over(
         self,
         alloc: Global,
-        design: &Design<'_, '_>,
+        netlist: &Netlist<'_, '_>,
         reached: &[bool],
     ) -> Result<(), BindFault>
-        requires told { IsTold design.now }
-        requires reached { AreReached (setting_of design.now) reached.now }
-        requires before { IsClear (setting_of design.now) (rank (line_of self)) }
-        ensures { Answers result (IsClear (setting_of design.now) (rank (line_of self) + 1)) (IsFirstFault (setting_of design.now)) }
+        requires told { IsTold netlist.now }
+        requires reached { AreReached (setting_of netlist.now) reached.now }
+        requires before { IsClear (setting_of netlist.now) (rank (line_of self)) }
+        ensures { Answers result (IsClear (setting_of netlist.now) (rank (line_of self) + 1)) (IsFirstFault (setting_of netlist.now)) }
     {
         for (at, is_reached) in reached.iter().enumerate() {
             if *is_reached {
-                self.look_in(alloc, design, at)?;
+                self.look_in(alloc, netlist, at)?;
             }
         }
         Ok(())

@@ -13,6 +13,3 @@ mod surveying;
 pub use edges::is_graph;
 pub use ring::{first_ring, ring_through};
 pub use surveying::{Survey, survey_from};
-
-#[cfg(test)]
-mod tests;

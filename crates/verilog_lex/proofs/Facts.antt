@@ -1,6 +1,6 @@
 -- What the laws of `laws` answer with: each is the clause of one of them.
 use Rattle.std.proofs.Common.{ℕ, ◌≤◌, ◌↔◌, List, length}
-use Rattle.verilog_lex.specs.Reads.{Reads, IsFault, IsOnlyReading, IsOnlyFault, HasDivision}
+use Rattle.verilog_lex.specs.Reads.{Reads, IsLexFault, IsOnlyReading, IsOnlyFault, HasDivision}
 use Rattle.verilog_lex.specs.Words.{words_of, AreSpelled, ArePlaced, HasOnlyBlanksBetween}
 use Rattle.verilog_lex.specs.Bare.{IsBare}
 use Rattle.verilog_lex.specs.Written.{WrittenWordsAreRead}
@@ -18,7 +18,7 @@ pub reading_is_only : (text : List ℕ) (tokens : List Token) → Reads text tok
 reading_is_only text tokens r = division.only_reading text tokens r
 
 -- a fault is the only one
-pub fault_is_only : (text : List ℕ) (offset : ℕ) (why : LexWhy) → IsFault text offset why → IsOnlyFault text offset why
+pub fault_is_only : (text : List ℕ) (offset : ℕ) (why : LexWhy) → IsLexFault text offset why → IsOnlyFault text offset why
 fault_is_only text offset why f = division.only_fault text offset why f
 
 -- every text has a reading or a fault

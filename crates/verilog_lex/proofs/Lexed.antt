@@ -3,7 +3,7 @@ use Rattle.std.proofs.Common.{◌≡◌, ℕ, zero, suc, ◌+◌, ◌≤◌, ◌
 use Rattle.std.proofs.lemmas.List.{append-nil, drop-drop}
 use Rattle.verilog_lex.specs.Scan.{Found, nothing, found, fault, scan}
 use Rattle.verilog_lex.specs.Lexemes.{Lexeme, blank, line_comment, block_comment, attribute, skipped_directive, token, IsLexeme, IsBroken}
-use Rattle.verilog_lex.specs.Reads.{Piece, joined, AreLexemes, token_at, tokens_of, Reads, IsFault, IsOnlyReading, IsRefusal}
+use Rattle.verilog_lex.specs.Reads.{Piece, joined, AreLexemes, token_at, tokens_of, Reads, IsLexFault, IsOnlyReading, IsRefusal}
 use Rattle.verilog_lex.specs.Stepping.{step_at, Within, Passes, Breaks}
 use Rattle.verilog_lex.specs.declared.steps.Step.{Step}
 use Rattle.verilog_lex.specs.declared.token.TokenKind.TheVariants as kind
@@ -91,7 +91,7 @@ lexed_end text at tokens s le =
 pub lexed_fault : (text : List ℕ) (at : ℕ) (tokens : List Token) (f : LexFault) → Lexed text at tokens → Breaks text at f → IsRefusal text f
 lexed_fault text at tokens f s (inl m) = inl m
 lexed_fault text at tokens f s (inr (k, is, place)) =
-    let b : IsFault text f.offset f.why = record {
+    let b : IsLexFault text f.offset f.why = record {
       pieces = s.pieces;
       rest = drop at text;
       place = k;

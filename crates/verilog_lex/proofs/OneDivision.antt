@@ -3,7 +3,7 @@ use Rattle.std.proofs.Common.{◌≡◌, ℕ, ◌+◌, List, [], ◌∷◌, ◌+
 use Rattle.std.proofs.lemmas.List.{append-nil}
 use Rattle.verilog_lex.specs.Scan.{Found, nothing, found, fault, scan}
 use Rattle.verilog_lex.specs.Lexemes.{Lexeme, IsBroken}
-use Rattle.verilog_lex.specs.Reads.{Piece, joined, AreLexemes, tokens_of, Reads, IsFault, IsOnlyReading, IsOnlyFault}
+use Rattle.verilog_lex.specs.Reads.{Piece, joined, AreLexemes, tokens_of, Reads, IsLexFault, IsOnlyReading, IsOnlyFault}
 use Rattle.verilog_lex.specs.declared.token.LexWhy.{LexWhy}
 use Rattle.verilog_lex.specs.declared.token.Token.{Token}
 use Rattle.verilog_lex.proofs.Again.{again, again_broken}
@@ -65,13 +65,13 @@ one_reading text ts us r s =
     let same = one_division r.pieces s.pieces [] [] (append-nil (joined r.pieces) ∙ (sym r.parts ∙ (s.parts ∙ sym (append-nil (joined s.pieces))))) r.all s.all tt tt in
     r.are ∙ (ap (tokens_of 0) same.0 ∙ sym s.are)
 
-pub one_fault : (text : List ℕ) (i j : ℕ) (w v : LexWhy) → IsFault text i w → IsFault text j v → (i ≡ j) × (w ≡ v)
+pub one_fault : (text : List ℕ) (i j : ℕ) (w v : LexWhy) → IsLexFault text i w → IsLexFault text j v → (i ≡ j) × (w ≡ v)
 one_fault text i j w v r s =
     let same = one_division r.pieces s.pieces r.rest s.rest (sym r.parts ∙ s.parts) r.all s.all (stop_fault w r.rest r.place r.broken) (stop_fault v s.rest s.place s.broken) in
     let equal = fault_same w v r.place s.place (sym (again_broken w r.rest r.place r.broken) ∙ (ap scan same.1 ∙ again_broken v s.rest s.place s.broken)) in
     (r.offset_is ∙ (ap (λ (ps : List Piece). length (joined ps) + r.place) same.0 ∙ (ap (λ (k : ℕ). length (joined s.pieces) + k) equal.1 ∙ sym s.offset_is)), equal.0)
 
-pub not_both : (text : List ℕ) (ts : List Token) (i : ℕ) (w : LexWhy) → Reads text ts → IsFault text i w → ⊥
+pub not_both : (text : List ℕ) (ts : List Token) (i : ℕ) (w : LexWhy) → Reads text ts → IsLexFault text i w → ⊥
 not_both text ts i w r s =
     let same = one_division r.pieces s.pieces [] s.rest (append-nil (joined r.pieces) ∙ (sym r.parts ∙ s.parts)) r.all s.all tt (stop_fault w s.rest s.place s.broken) in
     nothing_not w s.place (ap scan same.1 ∙ again_broken w s.rest s.place s.broken)
@@ -81,5 +81,5 @@ not_both text ts i w r s =
 pub only_reading : (text : List ℕ) (ts : List Token) → Reads text ts → IsOnlyReading text ts
 only_reading text ts r = record { reads = r; only = λ others o. one_reading text others ts o r; no_fault = λ i w f. not_both text ts i w r f }
 
-pub only_fault : (text : List ℕ) (i : ℕ) (w : LexWhy) → IsFault text i w → IsOnlyFault text i w
+pub only_fault : (text : List ℕ) (i : ℕ) (w : LexWhy) → IsLexFault text i w → IsOnlyFault text i w
 only_fault text i w f = record { fault = f; only = λ p o x. one_fault text p i o w x f; no_reading = λ ts r. not_both text ts i w r f }

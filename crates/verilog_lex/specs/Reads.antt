@@ -61,7 +61,7 @@ pub record Reads (text : List ℕ) (tokens : List Token) : Type 0 where
   pub are : tokens ≡ tokens_of 0 pieces
 
 -- The text is pieces in order and then a lexeme that is broken, and the offset is the place that its fault names.
-pub record IsFault (text : List ℕ) (offset : ℕ) (why : LexWhy) : Type 0 where
+pub record IsLexFault (text : List ℕ) (offset : ℕ) (why : LexWhy) : Type 0 where
   pub pieces : List Piece
   pub rest : List ℕ
   pub place : ℕ
@@ -74,12 +74,12 @@ pub record IsFault (text : List ℕ) (offset : ℕ) (why : LexWhy) : Type 0 wher
 pub record IsOnlyReading (text : List ℕ) (tokens : List Token) : Type 0 where
   pub reads : Reads text tokens
   pub only : (others : List Token) → Reads text others → others ≡ tokens
-  pub no_fault : (offset : ℕ) (why : LexWhy) → ¬ IsFault text offset why
+  pub no_fault : (offset : ℕ) (why : LexWhy) → ¬ IsLexFault text offset why
 
 -- The text has this fault and no other, and no reading.
 pub record IsOnlyFault (text : List ℕ) (offset : ℕ) (why : LexWhy) : Type 0 where
-  pub fault : IsFault text offset why
-  pub only : (place : ℕ) (other : LexWhy) → IsFault text place other → (place ≡ offset) × (other ≡ why)
+  pub fault : IsLexFault text offset why
+  pub only : (place : ℕ) (other : LexWhy) → IsLexFault text place other → (place ≡ offset) × (other ≡ why)
   pub no_reading : (tokens : List Token) → ¬ Reads text tokens
 
 -- Why a lexer refuses the text: it has this one fault, or there was no memory.
@@ -88,4 +88,4 @@ IsRefusal text fault = (fault.why ≡ why.Memory) ⊎ IsOnlyFault text fault.off
 
 -- The text has a reading or a fault.
 abbrev pub HasDivision : List ℕ → Type 0
-HasDivision text = ((tokens : List Token) × Reads text tokens) ⊎ ((offset : ℕ) × (why : LexWhy) × IsFault text offset why)
+HasDivision text = ((tokens : List Token) × Reads text tokens) ⊎ ((offset : ℕ) × (why : LexWhy) × IsLexFault text offset why)

@@ -3,7 +3,7 @@
 ghost use Rattle.std.specs.Prelude.{ℕ, ◌≤◌, ◌↔◌, List, length};
 ghost use Rattle.verilog_lex.specs.declared.token.LexWhy.{LexWhy};
 ghost use Rattle.verilog_lex.specs.declared.token.Token.{Token};
-ghost use Rattle.verilog_lex.specs.Reads.{Reads, IsFault, IsOnlyReading, IsOnlyFault, HasDivision};
+ghost use Rattle.verilog_lex.specs.Reads.{Reads, IsLexFault, IsOnlyReading, IsOnlyFault, HasDivision};
 ghost use Rattle.verilog_lex.specs.Words.{words_of, AreSpelled, ArePlaced, HasOnlyBlanksBetween};
 ghost use Rattle.verilog_lex.specs.Bare.{IsBare};
 ghost use Rattle.verilog_lex.specs.Written.{WrittenWordsAreRead};
@@ -37,5 +37,5 @@ pub fn every_text_divides()
 /// A text, however long, has at most one reading or one fault: a reading is the only one, and so is a fault, and no text has both.
 pub fn texts_divide_in_one_way()
     ensures reading { (text : List ℕ) (tokens : List Token) → Reads text tokens → IsOnlyReading text tokens }
-    ensures fault { (text : List ℕ) (offset : ℕ) (why : LexWhy) → IsFault text offset why → IsOnlyFault text offset why }
+    ensures fault { (text : List ℕ) (offset : ℕ) (why : LexWhy) → IsLexFault text offset why → IsOnlyFault text offset why }
 {}

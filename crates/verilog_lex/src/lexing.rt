@@ -5,9 +5,9 @@ ghost use Rattle.verilog_lex.specs.Reads.{IsOnlyReading, IsRefusal, token_start}
 ghost use Rattle.verilog_lex.specs.Scan.{scan};
 ghost use Rattle.verilog_lex.specs.Stepping.{step_at, Within, Passes, Breaks};
 
-use crate::list::List;
 use crate::steps::{Step, next_step};
 use crate::token::{LexFault, LexWhy, Token, TokenKind};
+use rsfq_ids::list::List;
 use std::alloc::Global;
 
 /// The lexeme at a place, which lies in the text.

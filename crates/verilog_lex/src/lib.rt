@@ -7,7 +7,6 @@ mod byte_classes;
 mod closing;
 mod laws;
 mod lexing;
-mod list;
 mod names;
 mod runs;
 mod steps;
@@ -19,9 +18,5 @@ pub use laws::{
     written_words_are_read,
 };
 pub use lexing::lex;
-pub use list::{List, NoMemory};
 pub use names::is_plain_name;
 pub use token::{LexFault, LexWhy, Token, TokenKind};
-
-#[cfg(test)]
-mod tests;

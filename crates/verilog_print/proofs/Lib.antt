@@ -3,3 +3,4 @@ pub mod Prints
 pub mod Adds
 pub mod Back
 pub mod Braces
+pub mod Plain

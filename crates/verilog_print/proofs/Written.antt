@@ -14,8 +14,9 @@ use Rattle.verilog_lex.specs.Written.{AreWritten, word_in}
 use Rattle.verilog_tree.specs.declared.lexeme.Keyword.{Keyword}
 use Rattle.verilog_tree.specs.declared.lexeme.Keyword.TheVariants as key
 use Rattle.verilog_tree.specs.Words.{Word, name, keyword, number, mark, word_of, meaning}
-use Rattle.verilog_tree.proofs.Good.{Good, AllGood, and_left, and_right, and_both, decimal_value, decimal_spelled, key_spelled, key_back}
+use Rattle.verilog_tree.proofs.Good.{Good, AllGood, and_left, and_right, and_both, decimal_value, decimal_spelled, key_spelled, key_back, not_true}
 use Rattle.verilog_print.specs.Text.{key_blank, written}
+use Rattle.verilog_tree.proofs.Tokens.{le_of}
 
 pub good_front : (a b : List Word) → AllGood (a ++ b) → AllGood a
 good_front [] b g = tt
@@ -26,13 +27,6 @@ good_back [] b g = g
 good_back (w ∷ a) b g = good_back a b g.1
 
 -- ---- bytes
-
-not_true : (b : Bool) → not b ≡ true → b ≡ false
-not_true true e = absurd cc
-not_true false e = refl
-
-le_of : (i j : ℕ) → nat_le i j ≡ true → i ≤ j
-le_of i j h = elim (leb_tells i j) [ inl t ↦ t.1 | inr t ↦ absurd cc ]
 
 of_le : (i j : ℕ) → i ≤ j → nat_le i j ≡ true
 of_le i j h = elim (leb_tells i j) [ inl t ↦ t.0 | inr t ↦ let gt : j < i = t.1 in absurd (omega arith) ]

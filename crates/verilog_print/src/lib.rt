@@ -5,6 +5,7 @@
 #![tactic(auto)]
 
 mod laws;
+mod phrase;
 mod print_items;
 mod print_phrases;
 mod printer;
@@ -12,6 +13,3 @@ mod printing;
 
 pub use laws::printed_trees_are_read_back;
 pub use printing::print;
-
-#[cfg(test)]
-mod tests;

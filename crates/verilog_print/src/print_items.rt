@@ -3,58 +3,16 @@
 ghost use Rattle.std.specs.Prelude.{◌≡◌, map, OnOk};
 ghost use Rattle.verilog_print.specs.Onto.{Onto, onto_each, onto_behind, onto_commas, onto_port, onto_head, onto_assign, onto_item, onto_module, onto_modules};
 ghost use Rattle.verilog_tree.specs.Trees.{Plain};
+ghost use Rattle.verilog_tree.specs.Trees as tree;
 ghost use Rattle.verilog_tree.specs.Views.{view_pair, view_port, view_head, view_item, view_module};
 
+use crate::phrase::Phrase;
 use crate::printer::Printer;
 use rsfq_ids::list::NoMemory;
 use rsfq_ids::name::Name;
 use verilog_tree::{Expr, Head, HeadPort, Item, Keyword, Module};
 
 impl Printer {
-    /// A port of a head.
-    fn port(&mut self, port: &HeadPort) -> Result<(), NoMemory>
-        ensures { OnOk result (self.new ≡ onto_port (view_port port.now) self.old) }
-    {
-        match port {
-            HeadPort::Full {
-                dir,
-                wire,
-                range,
-                name,
-            } => {
-                self.dir(*dir)?;
-                self.wire_word(*wire)?;
-                self.range(*range)?;
-                self.name(name)
-            }
-            HeadPort::Bare(name) => self.name(name),
-        }
-    }
-
-    /// Ports, parted by commas.
-    fn ports(&mut self, ports: &[HeadPort]) -> Result<(), NoMemory>
-        ensures { OnOk result (self.new ≡ onto_commas onto_port (map view_port ports.now) self.old) }
-    {
-        match ports {
-            [] => Ok(()),
-            [first, rest @ ..] => {
-                self.port(first)?;
-                self.more_ports(rest)
-            }
-        }
-    }
-
-    /// The further ports.
-    fn more_ports(&mut self, ports: &[HeadPort]) -> Result<(), NoMemory>
-        ensures { OnOk result (self.new ≡ onto_each (onto_behind onto_port) (map view_port ports.now) self.old) }
-    {
-        'more: for one in ports {
-            self.mark(b',')?;
-            self.port(one)?;
-        }
-        Ok(())
-    }
-
     /// A head of names alone: nothing where there are none.
     fn plain_head(&mut self, names: &[Name]) -> Result<(), NoMemory>
         ensures { OnOk result (self.new ≡ onto_head (Plain names.now) self.old) }
@@ -75,44 +33,10 @@ impl Printer {
             Head::Plain(names) => self.plain_head(names.as_slice()),
             Head::Full(ports) => {
                 self.mark(b'(')?;
-                self.ports(ports.as_slice())?;
+                self.commas(ports.as_slice())?;
                 self.mark(b')')
             }
         }
-    }
-
-    /// `expr = expr`
-    #[tactic(auto, unfolding(crate::specs::Onto::onto_assign))]
-    fn assign(&mut self, pair: &(Expr, Expr)) -> Result<(), NoMemory>
-        ensures { OnOk result (self.new ≡ onto_assign (view_pair pair.now) self.old) }
-    {
-        self.expr(&pair.0)?;
-        self.mark(b'=')?;
-        self.expr(&pair.1)
-    }
-
-    /// Pairs, parted by commas.
-    fn pairs(&mut self, pairs: &[(Expr, Expr)]) -> Result<(), NoMemory>
-        ensures { OnOk result (self.new ≡ onto_commas onto_assign (map view_pair pairs.now) self.old) }
-    {
-        match pairs {
-            [] => Ok(()),
-            [first, rest @ ..] => {
-                self.assign(first)?;
-                self.more_pairs(rest)
-            }
-        }
-    }
-
-    /// The further pairs.
-    fn more_pairs(&mut self, pairs: &[(Expr, Expr)]) -> Result<(), NoMemory>
-        ensures { OnOk result (self.new ≡ onto_each (onto_behind onto_assign) (map view_pair pairs.now) self.old) }
-    {
-        'more: for one in pairs {
-            self.mark(b',')?;
-            self.assign(one)?;
-        }
-        Ok(())
     }
 
     /// An item and its semicolon.
@@ -140,12 +64,12 @@ impl Printer {
             }
             Item::Assigns(pairs) => {
                 self.key(Keyword::Assign)?;
-                self.pairs(pairs.as_slice())?;
+                self.commas(pairs.as_slice())?;
                 self.mark(b';')
             }
             Item::Instances { kind, instances } => {
                 self.name(kind)?;
-                self.instances(instances.as_slice())?;
+                self.commas(instances.as_slice())?;
                 self.mark(b';')
             }
         }
@@ -182,5 +106,47 @@ impl Printer {
             self.module(tree)?;
         }
         Ok(())
+    }
+}
+
+impl Phrase for HeadPort {
+    ghost Seen = { tree.HeadPort };
+
+    ghost view = { view_port };
+
+    ghost onto = { onto_port };
+
+    /// A port of a head.
+    fn print(&self, printer: &mut Printer) -> Result<(), NoMemory> {
+        match self {
+            HeadPort::Full {
+                dir,
+                wire,
+                range,
+                name,
+            } => {
+                printer.dir(*dir)?;
+                printer.wire_word(*wire)?;
+                printer.range(*range)?;
+                printer.name(name)
+            }
+            HeadPort::Bare(name) => printer.name(name),
+        }
+    }
+}
+
+impl Phrase for (Expr, Expr) {
+    ghost Seen = { tree.Expr × tree.Expr };
+
+    ghost view = { view_pair };
+
+    ghost onto = { onto_assign };
+
+    /// `expr = expr`
+    #[tactic(auto, unfolding(crate::specs::Onto::onto_assign))]
+    fn print(&self, printer: &mut Printer) -> Result<(), NoMemory> {
+        printer.expr(&self.0)?;
+        printer.mark(b'=')?;
+        printer.expr(&self.1)
     }
 }

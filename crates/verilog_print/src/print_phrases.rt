@@ -3,12 +3,14 @@
 //! Each method writes one phrase of the grammar behind the text. Its clause equates it with the
 //! writing on lists of that name, of which the laws are proved apart from the code.
 
-ghost use Rattle.std.specs.Prelude.{◌≡◌, map, OnOk};
+ghost use Rattle.std.specs.Prelude.{◌≡◌, ℕ, List, Option, map, OnOk};
 ghost use Rattle.verilog_print.specs.Onto.{Onto, onto, onto_name, onto_each, onto_behind, onto_commas, onto_perhaps, onto_bounds, onto_wire, onto_expr, onto_optional, onto_named, onto_links, onto_instance};
 ghost use Rattle.verilog_tree.specs.Spelling.{dir_key};
 ghost use Rattle.verilog_tree.specs.Words.{keyword};
+ghost use Rattle.verilog_tree.specs.Trees as tree;
 ghost use Rattle.verilog_tree.specs.Views.{view_expr, view_optional, view_named, view_links, view_instance};
 
+use crate::phrase::Phrase;
 use crate::printer::Printer;
 use rsfq_ids::list::NoMemory;
 use rsfq_ids::name::Name;
@@ -16,27 +18,11 @@ use verilog_tree::{Dir, Expr, Instance, Keyword, Links, NamedLink};
 
 impl Printer {
     /// Names, parted by commas.
+    #[tactic(auto, using(crate::proofs::Plain::same_names))]
     pub(crate) fn names(&mut self, names: &[Name]) -> Result<(), NoMemory>
         ensures { OnOk result (self.new ≡ onto_commas onto_name names.now self.old) }
     {
-        match names {
-            [] => Ok(()),
-            [first, rest @ ..] => {
-                self.name(first)?;
-                self.more_names(rest)
-            }
-        }
-    }
-
-    /// The further names.
-    fn more_names(&mut self, names: &[Name]) -> Result<(), NoMemory>
-        ensures { OnOk result (self.new ≡ onto_each (onto_behind onto_name) names.now self.old) }
-    {
-        'more: for one in names {
-            self.mark(b',')?;
-            self.name(one)?;
-        }
-        Ok(())
+        self.commas(names)
     }
 
     /// `[left:right]`
@@ -134,108 +120,72 @@ impl Printer {
         }
     }
 
-    /// Ordered links.
-    fn optionals(&mut self, optionals: &[Option<Expr>]) -> Result<(), NoMemory>
-        ensures { OnOk result (self.new ≡ onto_commas onto_optional (map view_optional optionals.now) self.old) }
-    {
-        match optionals {
-            [] => Ok(()),
-            [first, rest @ ..] => {
-                self.optional(first)?;
-                self.more_optionals(rest)
-            }
-        }
-    }
-
-    /// The further ordered links.
-    fn more_optionals(&mut self, optionals: &[Option<Expr>]) -> Result<(), NoMemory>
-        ensures { OnOk result (self.new ≡ onto_each (onto_behind onto_optional) (map view_optional optionals.now) self.old) }
-    {
-        'more: for one in optionals {
-            self.mark(b',')?;
-            self.optional(one)?;
-        }
-        Ok(())
-    }
-
-    /// `.name(expr)` or `.name()`
-    #[tactic(auto, unfolding(crate::specs::Onto::onto_named))]
-    fn named(&mut self, link: &NamedLink) -> Result<(), NoMemory>
-        ensures { OnOk result (self.new ≡ onto_named (view_named link.now) self.old) }
-    {
-        self.mark(b'.')?;
-        self.name(&link.name)?;
-        self.mark(b'(')?;
-        self.optional(&link.expr)?;
-        self.mark(b')')
-    }
-
-    /// Links by name.
-    fn nameds(&mut self, nameds: &[NamedLink]) -> Result<(), NoMemory>
-        ensures { OnOk result (self.new ≡ onto_commas onto_named (map view_named nameds.now) self.old) }
-    {
-        match nameds {
-            [] => Ok(()),
-            [first, rest @ ..] => {
-                self.named(first)?;
-                self.more_nameds(rest)
-            }
-        }
-    }
-
-    /// The further links by name.
-    fn more_nameds(&mut self, nameds: &[NamedLink]) -> Result<(), NoMemory>
-        ensures { OnOk result (self.new ≡ onto_each (onto_behind onto_named) (map view_named nameds.now) self.old) }
-    {
-        'more: for one in nameds {
-            self.mark(b',')?;
-            self.named(one)?;
-        }
-        Ok(())
-    }
-
     /// The links of an instance.
     fn links(&mut self, links: &Links) -> Result<(), NoMemory>
         ensures { OnOk result (self.new ≡ onto_links (view_links links.now) self.old) }
     {
         match links {
-            Links::Named(links) => self.nameds(links.as_slice()),
-            Links::Ordered(links) => self.optionals(links.as_slice()),
+            Links::Named(links) => self.commas(links.as_slice()),
+            Links::Ordered(links) => self.commas(links.as_slice()),
         }
     }
+}
+
+impl Phrase for Name {
+    ghost Seen = { List ℕ };
+
+    ghost view = { λ name. name };
+
+    ghost onto = { onto_name };
+
+    fn print(&self, printer: &mut Printer) -> Result<(), NoMemory> {
+        printer.name(self)
+    }
+}
+
+impl Phrase for Option<Expr> {
+    ghost Seen = { Option tree.Expr };
+
+    ghost view = { view_optional };
+
+    ghost onto = { onto_optional };
+
+    fn print(&self, printer: &mut Printer) -> Result<(), NoMemory> {
+        printer.optional(self)
+    }
+}
+
+impl Phrase for NamedLink {
+    ghost Seen = { tree.NamedLink };
+
+    ghost view = { view_named };
+
+    ghost onto = { onto_named };
+
+    /// `.name(expr)` or `.name()`
+    #[tactic(auto, unfolding(crate::specs::Onto::onto_named))]
+    fn print(&self, printer: &mut Printer) -> Result<(), NoMemory> {
+        printer.mark(b'.')?;
+        printer.name(&self.name)?;
+        printer.mark(b'(')?;
+        printer.optional(&self.expr)?;
+        printer.mark(b')')
+    }
+}
+
+impl Phrase for Instance {
+    ghost Seen = { tree.Instance };
+
+    ghost view = { view_instance };
+
+    ghost onto = { onto_instance };
 
     /// `name (links)`
     #[tactic(auto, unfolding(crate::specs::Onto::onto_instance))]
-    fn instance(&mut self, instance: &Instance) -> Result<(), NoMemory>
-        ensures { OnOk result (self.new ≡ onto_instance (view_instance instance.now) self.old) }
-    {
-        self.name(&instance.name)?;
-        self.mark(b'(')?;
-        self.links(&instance.links)?;
-        self.mark(b')')
-    }
-
-    /// Instances, parted by commas.
-    pub(crate) fn instances(&mut self, instances: &[Instance]) -> Result<(), NoMemory>
-        ensures { OnOk result (self.new ≡ onto_commas onto_instance (map view_instance instances.now) self.old) }
-    {
-        match instances {
-            [] => Ok(()),
-            [first, rest @ ..] => {
-                self.instance(first)?;
-                self.more_instances(rest)
-            }
-        }
-    }
-
-    /// The further instances.
-    fn more_instances(&mut self, instances: &[Instance]) -> Result<(), NoMemory>
-        ensures { OnOk result (self.new ≡ onto_each (onto_behind onto_instance) (map view_instance instances.now) self.old) }
-    {
-        'more: for one in instances {
-            self.mark(b',')?;
-            self.instance(one)?;
-        }
-        Ok(())
+    fn print(&self, printer: &mut Printer) -> Result<(), NoMemory> {
+        printer.name(&self.name)?;
+        printer.mark(b'(')?;
+        printer.links(&self.links)?;
+        printer.mark(b')')
     }
 }

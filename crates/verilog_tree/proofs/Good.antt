@@ -1,6 +1,6 @@
 -- Words that tokens can mean: each has a token that is spelled as its kind is and means it.
 use Rattle.std.proofs.Common.{◌≡◌, ◌<◌, ◌≤◌, ◌++◌, ℕ, Bool, true, false, arith, length, List, [], ◌∷◌, map, refl, sym, ap, ◌∙◌, subst}
-use Rattle.std.specs.Prelude.{◌&&◌, decimal}
+use Rattle.std.specs.Prelude.{◌&&◌, not, decimal}
 use Rattle.std.specs.List.{list_all}
 use Rattle.std.specs.Char.{is_ascii_digit, is_ascii_graphic}
 use Rattle.std.specs.Str.{all_ascii_digits}
@@ -30,6 +30,10 @@ good_both [] b g h = h
 good_both (w ∷ a) b g h = (g.0, good_both a b g.1 h)
 
 -- ---- numbers and reserved words have tokens
+
+pub not_true : (b : Bool) → not b ≡ true → b ≡ false
+not_true true e = absurd cc
+not_true false e = refl
 
 pub and_left : (a b : Bool) → a && b ≡ true → a ≡ true
 and_left true b e = refl

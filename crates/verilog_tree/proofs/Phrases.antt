@@ -14,6 +14,7 @@ use Rattle.verilog_tree.specs.Trees.{Expr, Exprs, end, more, Name, Bit, Part, Jo
 use Rattle.verilog_tree.specs.Spelling.{◌⨾◌, Is, OneName, BehindComma, Commas, Names, SpellsBounds, SpellsRange, SpellsWire, dir_key, SpellsDir, SpellsExpr, SpellsValue, SpellsOptional, SpellsNamed, SpellsLinks, SpellsInstance, SpellsFull, SpellsPort, SpellsHead, SpellsAssign, SpellsItem, SpellsModule, SpellsSource}
 use Rattle.verilog_tree.specs.Parsing
 use Rattle.verilog_tree.proofs.Exact.{Then, exact_then, exact_perhaps, meets_lead, lead_token, lead_front, leads_begins, done_begins, Exact, any, done, Done, One, exact_one, exact_as, exact_either, exact_many, Or, Begins, Leads, Of, Meets, field, field_any, last, said, narrow, meets_both, meets_token, meets_one}
+use Rattle.verilog_tree.proofs.Good.{and_left, and_right, not_true}
 
 -- ---- tokens
 
@@ -115,18 +116,6 @@ exact_dir = exact_as (One dir_of) SpellsDir (one dir_of) any any
     (λ d w o. o.2 ∙ ap (λ (t : Word). t ∷ []) (dir_word o.0 d o.1)) (λ d w e. (keyword (dir_key d), dir_back d, e)) (λ o ok. ok) (exact_one dir_of dir.Input (keyword key.Input) refl tt)
 
 -- ---- tests
-
-not_true : (b : Bool) → not b ≡ true → b ≡ false
-not_true true e = absurd cc
-not_true false e = refl
-
-and_left : (a b : Bool) → a && b ≡ true → a ≡ true
-and_left true b e = refl
-and_left false b e = absurd cc
-
-and_right : (a b : Bool) → a && b ≡ true → b ≡ true
-and_right true b e = e
-and_right false b e = absurd cc
 
 some_is : {A : Type 0} (o : Option A) → is_some o ≡ true → (a : A) × (o ≡ Some a)
 some_is None e = absurd cc

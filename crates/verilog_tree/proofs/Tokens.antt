@@ -1,6 +1,6 @@
 -- What the bytes of a token are, by its kind: digits, text, one byte. And each token of a reading lies in its text.
 use Rattle.std.proofs.Common.{inl, inr, ◌≡◌, ◌<◌, ◌≤◌, ℕ, zero, suc, Bool, true, false, arith, length, List, [], ◌∷◌, map, refl, ap, subst}
-use Rattle.std.specs.Prelude.{◌&&◌, ◌||◌, ◌==◌, ◌+◌, nat_le}
+use Rattle.std.specs.Prelude.{◌||◌, ◌==◌, ◌+◌, nat_le}
 use Rattle.std.specs.Int.{is_in_range}
 use Rattle.std.proofs.lemmas.Bool.{eqb-true}
 use Rattle.std.proofs.lemmas.Bool.Decides.{leb_tells}
@@ -17,18 +17,11 @@ use Rattle.verilog_tree.specs.Words.{Word, IsToken, meaning, word_at, words}
 use Rattle.verilog_tree.specs.Trees.{Module}
 use Rattle.verilog_tree.specs.Spelling.{SpellsSource}
 use Rattle.verilog_tree.specs.Text.{IsSpelledTree}
-
-and_left : (a b : Bool) → a && b ≡ true → a ≡ true
-and_left true b e = refl
-and_left false b e = absurd cc
-
-and_right : (a b : Bool) → a && b ≡ true → b ≡ true
-and_right true b e = e
-and_right false b e = absurd cc
+use Rattle.verilog_tree.proofs.Good.{and_left, and_right}
 
 -- ---- digits
 
-le_of : (i j : ℕ) → nat_le i j ≡ true → i ≤ j
+pub le_of : (i j : ℕ) → nat_le i j ≡ true → i ≤ j
 le_of i j h = elim (leb_tells i j) [ inl t ↦ t.1 | inr t ↦ absurd cc ]
 
 digit_small : (b : ℕ) → is_ascii_digit b ≡ true → digit_value b < 10

@@ -7,7 +7,7 @@ use Rattle.verilog_tree.specs.Words.{Word, meaning}
 use Rattle.verilog_tree.proofs.Good.{AllGood, tokens_of_good}
 use Rattle.verilog_tree.specs.Trees.{Module}
 use Rattle.verilog_tree.specs.Spelling.{SpellsSource}
-use Rattle.verilog_tree.specs.Fault.{BeginsTree, IsFault}
+use Rattle.verilog_tree.specs.Fault.{BeginsTree, IsParseFault}
 use Rattle.verilog_tree.specs.Parsing
 use Rattle.verilog_tree.proofs.Exact.{bind_ok, bind_err}
 use Rattle.verilog_tree.proofs.Phrases.{exact_modules}
@@ -42,7 +42,7 @@ one_tree ts a b s t = ok_is a b (sym (source_again ts a s) ∙ source_again ts b
 pub clash : (ts : List Word) (tree : List Module) (k : ℕ) → Parsing.source ts ≡ Err k → SpellsSource tree ts → ⊥
 clash ts tree k e s = let h = source_again ts tree s in cc
 
-at_place : (ts front rest : List Word) (left : ℕ) → ts ≡ front ++ rest → left ≡ length rest → BeginsTree front → ((r : List Word) → first r ≡ first rest → (k : ℕ) × (Parsing.source (front ++ r) ≡ Err k)) → IsFault ts (length ts - left)
+at_place : (ts front rest : List Word) (left : ℕ) → ts ≡ front ++ rest → left ≡ length rest → BeginsTree front → ((r : List Word) → first r ≡ first rest → (k : ℕ) × (Parsing.source (front ++ r) ≡ Err k)) → IsParseFault ts (length ts - left)
 at_place ts front rest left parts is begins local =
     let at : length ts - left ≡ length front = omega (arith, ap length parts, length-append front rest) in
     let here : take (length front) ts ≡ front = rw parts (take-append_seam front rest) in
@@ -76,7 +76,7 @@ whole_err a (t ∷ ts) left e = (cc, at_token) where
   at_token (u ∷ us) same = (suc (length us), refl)
 
 -- a fault is where it is said
-pub source_fault : (ts : List Word) (left : ℕ) → Parsing.source ts ≡ Err left → IsFault ts (length ts - left)
+pub source_fault : (ts : List Word) (left : ℕ) → Parsing.source ts ≡ Err left → IsParseFault ts (length ts - left)
 unfolding Parsing.source
 source_fault ts left e = elim (bind_err (Parsing.modules ts) Parsing.whole left e) [
   | inl h ↦

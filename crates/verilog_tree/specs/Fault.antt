@@ -14,7 +14,7 @@ abbrev pub BeginsTree : List Word → Type 0
 BeginsTree front = (tree : List Module) × (tail : List lex.Word) × lex.AreSpelled tail × SpellsSource tree (front ++ map meaning tail)
 
 -- The words before this place begin a tree, and so do fewer of them. With the word there they begin none; where no word is there, they spell none.
-pub record IsFault (ts : List Word) (at : ℕ) : Type 0 where
+pub record IsParseFault (ts : List Word) (at : ℕ) : Type 0 where
   pub within : at ≤ length ts
   pub before : BeginsTree (take at ts)
   pub there : at < length ts → ¬ BeginsTree (take (at + 1) ts)
@@ -22,7 +22,7 @@ pub record IsFault (ts : List Word) (at : ℕ) : Type 0 where
 
 -- what a refusal says of the words: its place is their fault; want of memory says nothing
 abbrev pub Explains : List Word → ParseFault → Type 0
-Explains ts (fault.NoTree at) = IsFault ts at
+Explains ts (fault.NoTree at) = IsParseFault ts at
 Explains ts fault.Memory = Unit {0}
 
 -- the answer is this tree, or want of memory

@@ -7,6 +7,7 @@
 mod laws;
 mod lexeme;
 mod parsing;
+mod phrase;
 mod read_exprs;
 mod read_heads;
 mod read_items;
@@ -19,6 +20,3 @@ pub use laws::words_spell_one_tree;
 pub use lexeme::Keyword;
 pub use parsing::{ParseFault, parse};
 pub use tree::{Dir, Expr, Head, HeadPort, Instance, Item, Links, Module, NamedLink, Source};
-
-#[cfg(test)]
-mod tests;

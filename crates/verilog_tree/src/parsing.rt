@@ -15,9 +15,10 @@ ghost use Rattle.verilog_tree.specs.Parsing.{source};
 use crate::reader::Reader;
 use crate::stop::Stop;
 use crate::tree::Source;
+use rsfq_ids::list::List;
 use std::alloc::Global;
 use thiserror::Error;
-use verilog_lex::{List, Token, tokens_are_words};
+use verilog_lex::{Token, tokens_are_words};
 
 /// Why the tokens of a text spell no tree.
 #[derive(Clone, Copy, Debug, PartialEq, Eq, Drop, Error)]

@@ -3,13 +3,14 @@
 //! Each method of a reader reads one phrase of the grammar from the left. Its clause equates it
 //! with the reading on lists of that name, of which the laws are proved apart from the code.
 
-ghost use Rattle.std.specs.Prelude.{◌≡◌, ◌<◌, map, List, Ok};
+ghost use Rattle.std.specs.Prelude.{◌≡◌, ◌<◌, ℕ, map, List, Ok};
 ghost use Rattle.verilog_tree.specs.Reading.{one, first, with_front};
 ghost use Rattle.verilog_tree.specs.Parsing.{part_end, plain, expr, braces, range_in, range, behind_comma, more_commas, names};
 ghost use Rattle.verilog_tree.specs.Words.{name_of};
 ghost use Rattle.verilog_tree.specs.Giving.{Gives};
 ghost use Rattle.verilog_tree.specs.Views.{view_expr};
 
+use crate::phrase::Phrase;
 use crate::reader::Reader;
 use crate::stop::Stop;
 use crate::tree::Expr;
@@ -43,35 +44,12 @@ impl<'a> Reader<'a> {
         Ok(Some(bounds))
     }
 
-    /// A comma and a name.
-    fn next_name(&mut self, alloc: Global) -> Result<Name, Stop>
-        ensures { Gives self.new (λ x. x) result (behind_comma (one name_of) self.old) }
-    {
-        self.mark(b',')?;
-        self.name(alloc)
-    }
-
-    /// The further names of a list.
-    fn more_names(&mut self, alloc: Global, front: List<Name>) -> Result<List<Name>, Stop>
-        ensures { Gives self.new (λ x. x) result (with_front front (more_commas (one name_of) self.old)) }
-    {
-        let mut names = front;
-        'more: while self.is_mark(b',') {
-            let name = self.next_name(alloc)?;
-            names.push(name)?;
-        }
-        Ok(names)
-    }
-
     /// One or more names, parted by commas.
     #[tactic(auto, unfolding(crate::specs::Parsing::names, crate::specs::Parsing::commas))]
     pub(crate) fn names(&mut self, alloc: Global) -> Result<List<Name>, Stop>
         ensures { Gives self.new (λ x. x) result (names self.old) }
     {
-        let first = self.name(alloc)?;
-        let mut names = List::new(alloc);
-        names.push(first)?;
-        self.more_names(alloc, names)
+        self.phrases(alloc)
     }
 
     /// What stands behind the first number of a select.
@@ -149,5 +127,17 @@ impl<'a> Reader<'a> {
             parts.push(part)?;
         }
         Ok(parts)
+    }
+}
+
+impl Phrase for Name {
+    ghost Seen = { List ℕ };
+
+    ghost view = { λ name. name };
+
+    ghost reading = { one name_of };
+
+    fn read(reader: &mut Reader<'_>, alloc: Global) -> Result<Name, Stop> {
+        reader.name(alloc)
     }
 }

@@ -3,10 +3,12 @@
 ghost use Rattle.std.specs.Prelude.{◌≡◌, map};
 ghost use Rattle.verilog_tree.specs.Reading.{first, with_front};
 ghost use Rattle.verilog_tree.specs.Giving.{Gives};
+ghost use Rattle.verilog_tree.specs.Trees as tree;
 ghost use Rattle.verilog_tree.specs.Views.{view_port, view_head};
 ghost use Rattle.verilog_tree.specs.Parsing.{behind_comma, more_commas, full, port, ports, inside, head, wire_word, modules};
 
 use crate::lexeme::Keyword;
+use crate::phrase::Phrase;
 use crate::reader::Reader;
 use crate::stop::Stop;
 use crate::tree::{Head, HeadPort};
@@ -55,26 +57,6 @@ impl<'a> Reader<'a> {
         Ok(HeadPort::Bare(name))
     }
 
-    /// A comma and a further port.
-    fn next_port(&mut self, alloc: Global) -> Result<HeadPort, Stop>
-        ensures { Gives self.new view_port result (behind_comma port self.old) }
-    {
-        self.mark(b',')?;
-        self.port(alloc)
-    }
-
-    /// The further ports.
-    fn more_ports(&mut self, alloc: Global, front: List<HeadPort>) -> Result<List<HeadPort>, Stop>
-        ensures { Gives self.new (λ x. map view_port x) result (with_front (map view_port front) (more_commas port self.old)) }
-    {
-        let mut all = front;
-        'more: while self.is_mark(b',') {
-            let next = self.next_port(alloc)?;
-            all.push(next)?;
-        }
-        Ok(all)
-    }
-
     /// Ports of which the first has its declaration.
     #[tactic(auto, unfolding(crate::specs::Parsing::ports))]
     fn ports(&mut self, alloc: Global) -> Result<Head, Stop>
@@ -83,7 +65,7 @@ impl<'a> Reader<'a> {
         let first = self.full(alloc)?;
         let mut all = List::new(alloc);
         all.push(first)?;
-        let ports = self.more_ports(alloc, all)?;
+        let ports = self.more_phrases(alloc, all)?;
         Ok(Head::Full(ports))
     }
 
@@ -114,5 +96,17 @@ impl<'a> Reader<'a> {
         let head = self.inside(alloc)?;
         self.mark(b')')?;
         Ok(head)
+    }
+}
+
+impl Phrase for HeadPort {
+    ghost Seen = { tree.HeadPort };
+
+    ghost view = { view_port };
+
+    ghost reading = { port };
+
+    fn read(reader: &mut Reader<'_>, alloc: Global) -> Result<HeadPort, Stop> {
+        reader.port(alloc)
     }
 }

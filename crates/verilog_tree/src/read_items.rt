@@ -4,10 +4,12 @@ ghost use Rattle.std.specs.Prelude.{◌≡◌, map, length};
 ghost use Rattle.verilog_tree.specs.Reading.{first, with_front, many};
 ghost use Rattle.verilog_tree.specs.Words.{begins_item, next_is, key_of};
 ghost use Rattle.verilog_tree.specs.Giving.{Gives};
+ghost use Rattle.verilog_tree.specs.Trees as tree;
 ghost use Rattle.verilog_tree.specs.Views.{view_pair, view_item, view_module};
 ghost use Rattle.verilog_tree.specs.Parsing.{behind_comma, more_commas, commas, head, assign, port_item, wires, assigns, instances, item, module_of, modules};
 
 use crate::lexeme::Keyword;
+use crate::phrase::Phrase;
 use crate::reader::Reader;
 use crate::stop::Stop;
 use crate::tree::{Expr, Item, Module};
@@ -24,41 +26,6 @@ impl<'a> Reader<'a> {
         self.mark(b'=')?;
         let from = self.value(alloc)?;
         Ok((to, from))
-    }
-
-    /// A comma and a pair.
-    fn next_assign(&mut self, alloc: Global) -> Result<(Expr, Expr), Stop>
-        ensures { Gives self.new view_pair result (behind_comma assign self.old) }
-    {
-        self.mark(b',')?;
-        self.assign(alloc)
-    }
-
-    /// The further pairs of an `assign`.
-    fn more_pairs(
-        &mut self,
-        alloc: Global,
-        front: List<(Expr, Expr)>,
-    ) -> Result<List<(Expr, Expr)>, Stop>
-        ensures { Gives self.new (λ x. map view_pair x) result (with_front (map view_pair front) (more_commas assign self.old)) }
-    {
-        let mut all = front;
-        'more: while self.is_mark(b',') {
-            let next = self.next_assign(alloc)?;
-            all.push(next)?;
-        }
-        Ok(all)
-    }
-
-    /// One or more pairs.
-    #[tactic(auto, unfolding(crate::specs::Parsing::commas))]
-    fn pairs(&mut self, alloc: Global) -> Result<List<(Expr, Expr)>, Stop>
-        ensures { Gives self.new (λ x. map view_pair x) result (commas assign self.old) }
-    {
-        let first = self.assign(alloc)?;
-        let mut all = List::new(alloc);
-        all.push(first)?;
-        self.more_pairs(alloc, all)
     }
 
     /// A declaration of ports.
@@ -97,7 +64,7 @@ impl<'a> Reader<'a> {
         ensures { Gives self.new view_item result (assigns self.old) }
     {
         self.key(Keyword::Assign)?;
-        let pairs = self.pairs(alloc)?;
+        let pairs = self.phrases(alloc)?;
         self.mark(b';')?;
         Ok(Item::Assigns(pairs))
     }
@@ -108,7 +75,7 @@ impl<'a> Reader<'a> {
         ensures { Gives self.new view_item result (instances self.old) }
     {
         let kind = self.name(alloc)?;
-        let instances = self.instances(alloc)?;
+        let instances = self.phrases(alloc)?;
         self.mark(b';')?;
         Ok(Item::Instances { kind, instances })
     }
@@ -174,5 +141,17 @@ impl<'a> Reader<'a> {
         ensures { Gives self.new (λ x. map view_module x) result (modules self.old) }
     {
         self.more_modules(alloc, List::new(alloc))
+    }
+}
+
+impl Phrase for (Expr, Expr) {
+    ghost Seen = { tree.Expr × tree.Expr };
+
+    ghost view = { view_pair };
+
+    ghost reading = { assign };
+
+    fn read(reader: &mut Reader<'_>, alloc: Global) -> Result<(Expr, Expr), Stop> {
+        reader.assign(alloc)
     }
 }

@@ -1,13 +1,13 @@
 use Rattle.std.proofs.Common.{List, refl}
-use Rattle.verilog_sites.specs.Sites.{Site}
-use Rattle.bound_source.specs.Faults.{HasTooMany}
-use Rattle.kind_ports.specs.Design.{setting_of}
+use Rattle.bind_sites.specs.Sites.{Site}
+use Rattle.bind_forms.specs.Faults.{HasTooMany}
+use Rattle.bind_kinds.specs.Netlist.{setting_of}
 use Rattle.bind_faults.proofs.Linked.{in_list}
 use Rattle.bind_faults.proofs.check.refuse_links.Goals as goal
 
 pub returns-in-Some : goal.returns-in-Some
 returns-in-Some c = λ all has other.
-    let setting = setting_of c.args.design.now in
+    let setting = setting_of c.args.netlist.now in
     (c.in-Some.have, c.in-Some.want, in_list setting c.args.at all (λ (l : List Site). HasTooMany setting l c.args.site c.in-Some.have c.in-Some.want) has c.in-Some.ensures.found, refl)
 
 pub returns-in-None : goal.returns-in-None

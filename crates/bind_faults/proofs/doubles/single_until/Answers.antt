@@ -1,7 +1,7 @@
 use Rattle.std.proofs.Common.{ℕ, subst}
 use Rattle.std.proofs.lemmas.List.{length-map}
-use Rattle.verilog_sites.specs.View.{view_site}
-use Rattle.module_scope.specs.Scoped.{HasNoDouble, sites_of}
+use Rattle.bind_sites.specs.View.{view_site}
+use Rattle.bind_names.specs.Scoped.{HasNoDouble, sites_of}
 use Rattle.bind_faults.proofs.FirstDoubles.{single_before, single_last, single_all}
 use Rattle.bind_faults.proofs.doubles.single_until.Goals as goal
 

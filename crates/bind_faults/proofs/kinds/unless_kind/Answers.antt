@@ -1,6 +1,6 @@
 use Rattle.std.proofs.Common.{refl, subst, Option, None}
-use Rattle.module_tree.specs.declared.kinds.Meaning.{Meaning}
-use Rattle.kind_ports.specs.Meanings.{KindMeans}
+use Rattle.bind_hierarchy.specs.declared.kinds.Meaning.{Meaning}
+use Rattle.bind_kinds.specs.Meanings.{KindMeans}
 use Rattle.bind_faults.proofs.KindNames.{is_kind, no_kind}
 use Rattle.bind_faults.proofs.kinds.unless_kind.Goals as goal
 

@@ -1,4 +1,4 @@
-use Rattle.module_scope.specs.Scoped.{sites_of}
+use Rattle.bind_names.specs.Scoped.{sites_of}
 use Rattle.bind_faults.proofs.PortLinks.{first_twice, none_twice}
 use Rattle.bind_faults.proofs.scan.refuse_port_twice.Goals as goal
 

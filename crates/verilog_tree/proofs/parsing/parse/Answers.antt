@@ -1,7 +1,7 @@
 use Rattle.std.proofs.Common.{◌≡◌, ◌-◌, ℕ, length, sym, ◌∙◌, subst, ap, arith}
 use Rattle.std.proofs.lemmas.List.{length-map}
 use Rattle.verilog_tree.specs.Words.{word_at, words}
-use Rattle.verilog_tree.specs.Fault.{IsFault}
+use Rattle.verilog_tree.specs.Fault.{IsParseFault}
 use Rattle.verilog_tree.specs.Views.{view_source}
 use Rattle.verilog_tree.proofs.Tokens.{all_tokens, spelled_tree}
 use Rattle.verilog_tree.proofs.Whole.{source_found, source_again, source_fault, clash, ok_is}
@@ -29,7 +29,7 @@ returns-in-Err-Left-clause-fault c =
     let e = rw (c.in-Err-Left.field-0-is, c.as_slice-tokens.ensures) at c.in-Err-Left.ensures in
     let ts = words c.args.bytes.now c.args.tokens.now in
     let n : length c.as_slice-tokens.result.now ≡ length (words c.args.bytes.now c.args.tokens.now) = ap length c.as_slice-tokens.ensures ∙ sym (length-map c.args.tokens.now (word_at c.args.bytes.now)) in
-    subst (λ (at : ℕ). IsFault (words c.args.bytes.now c.args.tokens.now) at) (ap (λ (k : ℕ). k - c.in-Err-Left.left) (sym n) ∙ sym c.saturating_sub-at.ensures) (source_fault (words c.args.bytes.now c.args.tokens.now) c.in-Err-Left.left e)
+    subst (λ (at : ℕ). IsParseFault (words c.args.bytes.now c.args.tokens.now) at) (ap (λ (k : ℕ). k - c.in-Err-Left.left) (sym n) ∙ sym c.saturating_sub-at.ensures) (source_fault (words c.args.bytes.now c.args.tokens.now) c.in-Err-Left.left e)
 
 pub returns-in-Ok-clause-formed : goal.returns-in-Ok-clause-formed
 returns-in-Ok-clause-formed c =

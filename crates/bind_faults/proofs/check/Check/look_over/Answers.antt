@@ -1,6 +1,6 @@
 use Rattle.std.proofs.Common.{◌≡◌, ◌∙◌, true, false, sym, arith}
 use Rattle.std.proofs.lemmas.Result.{err_from_is_err_and}
-use Rattle.kind_ports.specs.Design.{setting_of}
+use Rattle.bind_kinds.specs.Netlist.{setting_of}
 use Rattle.bind_faults.specs.Checks.{line_of}
 use Rattle.bind_faults.proofs.Order.{first_fault, clear_more}
 use Rattle.bind_faults.proofs.Places.{has_sites, scopes_count}
@@ -9,11 +9,11 @@ use Rattle.bind_faults.proofs.check.Check.look_over.Goals as goal
 use Rattle.bind_faults.proofs.check.Check.look_over.Goals.{then-is_reached+in_ok-look_in, else-is_reached}
 
 pub look_in-requires-clause-there : goal.look_in-requires-clause-there
-look_in-requires-clause-there c = omega (arith, c.loop-at-test.true, c.requires.reached.count, scopes_count c.args.design.now c.requires.told.is_design)
+look_in-requires-clause-there c = omega (arith, c.loop-at-test.true, c.requires.reached.count, scopes_count c.args.netlist.now c.requires.told.is_netlist)
 
 pub returns-in_err-look_in : goal.returns-in_err-look_in
 returns-in_err-look_in c =
-    let setting = setting_of c.args.design.now in
+    let setting = setting_of c.args.netlist.now in
     let sites = has_sites setting c.loop-at.at (omega (arith, c.loop-at-test.true, c.requires.reached.count)) in
     let p = err_from_is_err_and c.from_residual.result c.from_residual.ensures.1 in
     rw (p.1, p.2) (λ other. first_fault setting (line_of c.args.self) c.in_err-look_in.field-0.0 c.requires.before
@@ -21,7 +21,7 @@ returns-in_err-look_in c =
 
 pub loop-at-preserved : goal.loop-at-preserved
 loop-at-preserved c =
-    let setting = setting_of c.args.design.now in
+    let setting = setting_of c.args.netlist.now in
     let sites = has_sites setting c.loop-at.at (omega (arith, c.loop-at-test.true, c.requires.reached.count)) in
     elim c.if-is_reached.branch [
       | then-is_reached+in_ok-look_in w ↦ reached_more c.args.self setting c.loop-at.at sites.0 sites.1 (w.in_ok-look_in.ensures sites.0 sites.1) c.loop-at.invariant
@@ -30,5 +30,5 @@ loop-at-preserved c =
 
 pub returns : goal.returns
 returns c =
-    let setting = setting_of c.args.design.now in
+    let setting = setting_of c.args.netlist.now in
     clear_more setting (line_of c.args.self) c.requires.before (clear_all c.args.self setting c.loop-at.at (omega (arith, c.loop-at-test.false, c.requires.reached.count)) c.loop-at.invariant)

@@ -1,0 +1,10 @@
+pub mod Every
+pub mod Meanings
+pub mod Places
+pub mod Zips
+pub mod Made
+pub mod Ports
+pub mod Heads
+pub mod Behind
+pub mod Passed
+pub mod Laid

@@ -1,0 +1,13 @@
+pub mod FirstPlaces
+pub mod Doubles
+pub mod NameRanges
+pub mod Known
+pub mod OneRange
+pub mod Wide
+pub mod PortLinks
+pub mod RangeFaults
+pub mod Crossings
+pub mod Indexing
+pub mod Least
+pub mod Repeats
+pub mod Splitting

@@ -1,5 +1,0 @@
-use Rattle.bound_laws.proofs.Assigns.{assigns_fit}
-use Rattle.bound_laws.proofs.laws.assigns_fit.Goals as goal
-
-pub returns : goal.returns
-returns c = assigns_fit

@@ -1,5 +1,0 @@
-use Rattle.bound_laws.proofs.Unique.{bound_is_one}
-use Rattle.bound_laws.proofs.laws.bound_is_one.Goals as goal
-
-pub returns : goal.returns
-returns c = bound_is_one

@@ -1,5 +1,0 @@
-use Rattle.bound_laws.proofs.Answered.{fault_is_one}
-use Rattle.bound_laws.proofs.laws.fault_is_one.Goals as goal
-
-pub returns : goal.returns
-returns c = fault_is_one

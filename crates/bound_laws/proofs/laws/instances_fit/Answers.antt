@@ -1,5 +1,0 @@
-use Rattle.bound_laws.proofs.Links.{instances_fit}
-use Rattle.bound_laws.proofs.laws.instances_fit.Goals as goal
-
-pub returns : goal.returns
-returns c = instances_fit

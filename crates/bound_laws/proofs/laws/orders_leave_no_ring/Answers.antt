@@ -1,5 +1,0 @@
-use Rattle.bound_laws.proofs.Ranks.{orders_leave_no_ring}
-use Rattle.bound_laws.proofs.laws.orders_leave_no_ring.Goals as goal
-
-pub returns : goal.returns
-returns c = orders_leave_no_ring

@@ -1,5 +1,0 @@
-use Rattle.bound_laws.proofs.Assigns.{ports_are_narrow}
-use Rattle.bound_laws.proofs.laws.ports_are_narrow.Goals as goal
-
-pub returns : goal.returns
-returns c = ports_are_narrow

@@ -1,8 +1,0 @@
-use Rattle.std.proofs.Common.{take}
-use Rattle.std.specs.List.{AllZip}
-use Rattle.verilog_tree.specs.Views.{view_source}
-use Rattle.kind_ports.specs.Design.{AreWidthsOf}
-use Rattle.kind_ports.proofs.widths.widths_of.Given as goal
-
-abbrev pub invariant-loop-at : goal.invariant-loop-at
-invariant-loop-at l = AllZip AreWidthsOf (take l.at (view_source l.source)) l.widths.items

@@ -1,7 +1,0 @@
-use Rattle.kind_ports.specs.Design.{setting_of}
-use Rattle.link_faults.proofs.More.{links_none}
-use Rattle.link_faults.proofs.ports.more_links.Goals as goal
-
-pub returns-in-Ordered-clause-none : goal.returns-in-Ordered-clause-none
-returns-in-Ordered-clause-none c =
-    links_none (setting_of c.args.design.now) c.args.kind.name.now c.args.links.now c.in-Ordered.links c.len.result c.more_than_ports.result c.in-Ordered.is c.len.ensures c.more_than_ports.ensures.none

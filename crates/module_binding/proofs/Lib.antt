@@ -1,7 +1,0 @@
-pub mod Found
-pub mod Zips
-pub mod Steps
-pub mod Meant
-pub mod Linking
-pub mod Standing
-pub mod Whole

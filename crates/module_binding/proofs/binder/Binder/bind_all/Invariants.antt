@@ -1,8 +1,0 @@
-use Rattle.std.proofs.Common.{take}
-use Rattle.std.specs.List.{AllZip}
-use Rattle.bound_source.specs.Binds.{BindsModuleAt}
-use Rattle.module_binding.specs.Sound.{setting_in}
-use Rattle.module_binding.proofs.binder.Binder.bind_all.Given as goal
-
-abbrev pub invariant-loop-at : goal.invariant-loop-at
-invariant-loop-at l = AllZip (BindsModuleAt (setting_in l.self) l.self.places.now) (take l.at-index l.self.places.now) l.modules

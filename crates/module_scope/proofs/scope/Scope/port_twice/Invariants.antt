@@ -1,6 +1,0 @@
-use Rattle.module_scope.specs.Scoped.{sites_of}
-use Rattle.module_scope.specs.Linked.{AreLinked, HasNoPortTwice}
-use Rattle.module_scope.proofs.scope.Scope.port_twice.Given as goal
-
-abbrev pub invariant-loop-at : goal.invariant-loop-at
-invariant-loop-at l = AreLinked (sites_of l.self) l.at l.linked × HasNoPortTwice (sites_of l.self) l.at

@@ -1,4 +1,0 @@
-pub mod Indexed
-pub mod Scoped
-pub mod Checked
-pub mod Linked

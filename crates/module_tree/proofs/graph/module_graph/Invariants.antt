@@ -1,7 +1,0 @@
-use Rattle.std.proofs.Common.{◌≡◌, take, map}
-use Rattle.verilog_tree.specs.Views.{view_module}
-use Rattle.module_tree.specs.Kinds.{inner_modules}
-use Rattle.module_tree.proofs.graph.module_graph.Given as goal
-
-abbrev pub invariant-loop-module : goal.invariant-loop-module
-invariant-loop-module l = l.graph.items ≡ map (λ holder. inner_modules l.kinds.modules (view_module holder)) (take l.module-index l.module-items)

@@ -1,5 +1,0 @@
-use Rattle.module_wires.proofs.Listing.{instance_sites_are}
-use Rattle.module_wires.proofs.laws.instances_are_sites.Goals as goal
-
-pub returns : goal.returns
-returns c = instance_sites_are

@@ -1,7 +1,0 @@
-use Rattle.std.proofs.Common.{take, map}
-use Rattle.verilog_sites.specs.View.{view_operand}
-use Rattle.module_wires.specs.Fitting.{AreParts}
-use Rattle.module_wires.proofs.wires.Wires.parts.Given as goal
-
-abbrev pub invariant-loop-operand : goal.invariant-loop-operand
-invariant-loop-operand l = AreParts l.self.list (map view_operand (take l.operand-index l.found)) l.parts.items

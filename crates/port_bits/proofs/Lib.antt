@@ -1,5 +1,0 @@
-pub mod Crossings
-pub mod Indexing
-pub mod Least
-pub mod Repeats
-pub mod Splitting

@@ -1,0 +1,12 @@
+pub mod Found
+pub mod Listing
+pub mod Made
+pub mod Zips
+pub mod Numbering
+pub mod Parts
+pub mod Assigning
+pub mod Steps
+pub mod Meant
+pub mod Linking
+pub mod Standing
+pub mod Whole

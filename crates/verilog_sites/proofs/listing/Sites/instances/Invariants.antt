@@ -1,9 +1,0 @@
-use Rattle.std.proofs.Common.{take, map}
-use Rattle.std.specs.List.{flat_map}
-use Rattle.verilog_tree.specs.Views.{view_instance}
-use Rattle.verilog_sites.specs.Sites.{instance_sites}
-use Rattle.verilog_sites.specs.Listing.{Adds}
-use Rattle.verilog_sites.proofs.listing.Sites.instances.Given as goal
-
-abbrev pub invariant-loop-instance : goal.invariant-loop-instance
-invariant-loop-instance l = Adds l.fn.self l.self (flat_map (instance_sites l.kind) (map view_instance (take l.instance-index l.instances)))

@@ -1,7 +1,0 @@
-use Rattle.std.proofs.Common.{take, map}
-use Rattle.verilog_sites.specs.Sites.{Listed}
-use Rattle.verilog_sites.specs.Listing.{Adds}
-use Rattle.verilog_sites.proofs.listing.Sites.listed.Given as goal
-
-abbrev pub invariant-loop-name : goal.invariant-loop-name
-invariant-loop-name l = Adds l.fn.self l.self (map Listed (take l.name-index l.names))
