@@ -6,8 +6,8 @@ use Rattle.std.proofs.lemmas.List.{get_or_append_left, get_or_default}
 use Rattle.std.proofs.lemmas.List.Sums.{sum_by_more}
 use Rattle.std.proofs.lemmas.Option.{slice_get_within, get_or_from_slice_get}
 use Rattle.std.proofs.Math.Seq.{get_or-append_seam}
-use Rattle.bound_source.specs.declared.bound.BoundModule.{BoundModule}
-use Rattle.design_size.specs.declared.size.Size.{Size}
+use Rattle.bind_forms.specs.declared.bound.BoundModule.{BoundModule}
+use Rattle.flat_places.specs.declared.size.Size.{Size}
 use Rattle.flat_names.specs.declared.begins.Begins.{Begins}
 use Rattle.flat_names.specs.Begins.{AreBegins, IsBegun, AreBegun}
 

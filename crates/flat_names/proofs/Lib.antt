@@ -2,4 +2,3 @@ pub mod Lists
 pub mod Modules
 pub mod Placing
 pub mod Begun
-pub mod Sampled

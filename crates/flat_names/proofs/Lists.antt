@@ -6,15 +6,6 @@ use Rattle.std.specs.Result.{IfOk}
 use Rattle.std.specs.List.{All}
 use Rattle.std.proofs.lemmas.Option.{same_Some, slice_get_within, get_or_from_slice_get, slice_get_read}
 
--- a value that comes from an optional one comes from a value
-pub mapped_from : {X Y : Type 0} (f : X → Y) (o : Option X) (y : Y) → option_map f o ≡ Some y → (x : X) × (o ≡ Some x) × (f x ≡ y)
-mapped_from f None y e = absurd cc
-mapped_from f (Some x) y e = (x, refl, same_Some (f x) y e)
-
--- what holds of each item holds of the one that was got
-pub all_got : {X : Type 0} (P : X → Type 0) (xs : List X) (k : ℕ) (x : X) → All P xs → slice_get xs k ≡ Some x → P x
-all_got P xs k x h e = subst P (get_or_from_slice_get xs k x x e) (h k x (slice_get_within xs k x e))
-
 -- what was read from a list that is another
 pub read_from : {X : Type 0} (xs ys : List X) (k : ℕ) (x : X) → ys ≡ xs → x ≡ get_or ys k x → x ≡ get_or xs k x
 read_from {X} xs ys k x same is = is ∙ ap (λ (zs : List X). get_or zs k x) same

@@ -3,23 +3,17 @@ use Rattle.std.proofs.Common.{◌≡◌, ◌∙◌, ◌≤◌, ℕ, zero, suc, L
 use Rattle.std.specs.Prelude.{slice_get, unwrap_or, IsSome}
 use Rattle.std.specs.Option.{option_map, option_and_then}
 use Rattle.rsfq_ids.specs.declared.table.CellTable.{CellTable}
-use Rattle.bound_source.specs.declared.bound.BoundKind.TheVariants.{Module}
-use Rattle.bound_source.specs.declared.bound.BoundInstance.{BoundInstance}
-use Rattle.bound_source.specs.declared.bound.BoundModule.{BoundModule}
-use Rattle.bound_source.specs.declared.bound.BoundPort.{BoundPort}
-use Rattle.bound_source.specs.declared.bound.BoundWire.{BoundWire}
-use Rattle.bound_source.specs.declared.bound.Bound.{Bound}
-use Rattle.bound_source.specs.Bits.{width_of}
-use Rattle.bound_source.specs.WellFormed.{IsInstance, port_widths}
-use Rattle.design_size.specs.Hierarchy.{instances_of, wires_of, module_of, leads_to, IsDeeper}
-use Rattle.flat_names.specs.Design.{IsWithin}
-use Rattle.flat_names.proofs.Lists.{mapped_from}
-
-pub wires_at : (bound : Bound) (at : ℕ) (owner : BoundModule) → slice_get bound.modules at ≡ Some owner → wires_of bound at ≡ owner.wires
-wires_at bound at owner e = ap (λ (o : Option BoundModule). unwrap_or (option_map (λ (m : BoundModule). m.wires) o) []) e
-
-pub instances_at : (bound : Bound) (at : ℕ) (owner : BoundModule) → slice_get bound.modules at ≡ Some owner → instances_of bound at ≡ owner.instances
-instances_at bound at owner e = ap (λ (o : Option BoundModule). unwrap_or (option_map (λ (m : BoundModule). m.instances) o) []) e
+use Rattle.bind_forms.specs.declared.bound.BoundKind.TheVariants.{Module}
+use Rattle.bind_forms.specs.declared.bound.BoundInstance.{BoundInstance}
+use Rattle.bind_forms.specs.declared.bound.BoundModule.{BoundModule}
+use Rattle.bind_forms.specs.declared.bound.BoundPort.{BoundPort}
+use Rattle.bind_forms.specs.declared.bound.BoundWire.{BoundWire}
+use Rattle.bind_forms.specs.declared.bound.Bound.{Bound}
+use Rattle.bind_forms.specs.Bits.{width_of}
+use Rattle.bind_forms.specs.WellFormed.{IsInstance, port_widths}
+use Rattle.flat_places.specs.Hierarchy.{instances_of, wires_of, module_of, leads_to, IsDeeper}
+use Rattle.flat_names.specs.Measured.{IsWithin}
+use Rattle.flat_places.proofs.Joined.{mapped_from}
 
 -- a module lies on a level
 pub some_level : (bound : Bound) (levels at : ℕ) → (IsDeeper bound levels at → ⊥) → 1 ≤ levels

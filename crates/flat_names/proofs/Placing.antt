@@ -5,26 +5,28 @@ use Rattle.std.specs.Option.{option_map, option_and_then}
 use Rattle.std.proofs.lemmas.Option.{same_Some, slice_get_within, slice_get-get_or}
 use Rattle.std.proofs.lemmas.List.Sums.{sum_by-cons}
 use Rattle.rsfq_ids.specs.declared.table.CellTable.{CellTable}
-use Rattle.bound_source.specs.declared.bound.BoundKind.{BoundKind}
-use Rattle.bound_source.specs.declared.bound.BoundKind.TheVariants.{Module, Cell}
-use Rattle.bound_source.specs.declared.bound.BoundInstance.{BoundInstance}
-use Rattle.bound_source.specs.declared.bound.BoundModule.{BoundModule}
-use Rattle.bound_source.specs.declared.bound.BoundWire.{BoundWire}
-use Rattle.bound_source.specs.declared.bound.Bound.{Bound}
-use Rattle.bound_source.specs.Bits.{width_of, bit_name}
-use Rattle.bound_source.specs.WellFormed.{IsBound, IsModule, IsInstance}
-use Rattle.design_size.specs.declared.size.Size.{Size}
-use Rattle.design_size.specs.Rounds.{empty_size}
-use Rattle.design_size.specs.Sizes.{AreSizes}
-use Rattle.design_size.specs.Hierarchy.{instances_of, wires_of, module_of, leads_to, bits_of, bits_by, bit_count, IsDeeper}
+use Rattle.bind_forms.specs.declared.bound.BoundKind.{BoundKind}
+use Rattle.bind_forms.specs.declared.bound.BoundKind.TheVariants.{Module, Cell}
+use Rattle.bind_forms.specs.declared.bound.BoundInstance.{BoundInstance}
+use Rattle.bind_forms.specs.declared.bound.BoundModule.{BoundModule}
+use Rattle.bind_forms.specs.declared.bound.BoundWire.{BoundWire}
+use Rattle.bind_forms.specs.declared.bound.Bound.{Bound}
+use Rattle.bind_forms.specs.Bits.{width_of, bit_name}
+use Rattle.bind_forms.specs.WellFormed.{IsBound, IsModule, IsInstance}
+use Rattle.flat_places.specs.declared.size.Size.{Size}
+use Rattle.flat_places.specs.Rounds.{empty_size}
+use Rattle.flat_places.specs.Sizes.{AreSizes}
+use Rattle.flat_places.specs.Hierarchy.{instances_of, wires_of, module_of, leads_to, bits_of, bits_by, bit_count, IsDeeper}
 use Rattle.flat_places.specs.Places.{Place}
 use Rattle.flat_places.specs.Numbers.{bits_before, number_in}
 use Rattle.flat_places.specs.Names.{names_along, dotted}
-use Rattle.flat_pieces.specs.Paths.{longer}
+use Rattle.flat_places.specs.Paths.{longer}
 use Rattle.flat_names.specs.Found.{size_bits, IsPlaceNamed}
-use Rattle.flat_names.specs.Design.{IsWithin}
-use Rattle.flat_names.proofs.Lists.{all_got}
-use Rattle.flat_names.proofs.Modules.{wires_at, instances_at, some_level, one_less, module_there}
+use Rattle.flat_names.specs.Measured.{IsWithin}
+use Rattle.flat_names.proofs.Modules.{some_level, one_less, module_there}
+use Rattle.flat_places.proofs.Joined.{all_got}
+use Rattle.flat_places.proofs.Modules.{instances_at, wires_at}
+use Rattle.flat_places.proofs.Numbered.{number_own}
 
 -- ---- sums
 
@@ -156,11 +158,6 @@ inner_fits table bound levels at owner sizes b s high deep few there k inner ins
     }
 
 -- ---- numbers
-
-number_own : (bound : Bound) (levels at wire bit : ℕ) → number_in bound levels at [] wire bit ≡ bits_of (take wire (wires_of bound at)) + bit
-unfolding number_in
-number_own bound zero at wire bit = refl
-number_own bound (suc levels) at wire bit = refl
 
 number_deeper : (bound : Bound) (levels at instance : ℕ) (path : List ℕ) (wire bit : ℕ) → 1 ≤ levels → number_in bound levels at (instance ∷ path) wire bit ≡
     bits_before bound (levels - 1) at instance + unwrap_or (option_map (λ (inner : ℕ). number_in bound (levels - 1) inner path wire bit) (option_and_then (λ (declared : BoundInstance). module_of declared.kind) (slice_get (instances_of bound at) instance))) 0

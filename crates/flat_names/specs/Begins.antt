@@ -1,8 +1,8 @@
 -- Where counted items begin, and in which of them a number lies.
 use Rattle.std.specs.Prelude.{◌≡◌, ℕ, ◌+◌, ◌<◌, min, List, take, length, sum_by, slice_index, slice_index_or, EachIndex}
-use Rattle.bound_source.specs.declared.bound.BoundModule.{BoundModule}
-use Rattle.bound_source.specs.Bits.{width_of}
-use Rattle.design_size.specs.declared.size.Size.{Size}
+use Rattle.bind_forms.specs.declared.bound.BoundModule.{BoundModule}
+use Rattle.bind_forms.specs.Bits.{width_of}
+use Rattle.flat_places.specs.declared.size.Size.{Size}
 use Rattle.flat_names.specs.declared.begins.Begins.{Begins}
 use Rattle.flat_names.specs.Found.{size_bits}
 

@@ -1,19 +1,19 @@
 -- A place and its printed name, found by its number.
 use Rattle.std.specs.Prelude.{◌≡◌, ℕ, ◌+◌, ◌<◌, List, ◌++◌, take, sum_by, slice_get, slice_index_or, Option, Some, option_to_list}
 use Rattle.std.specs.Option.{option_map, option_and_then}
-use Rattle.bound_source.specs.declared.bound.BoundWire.{BoundWire}
-use Rattle.bound_source.specs.declared.bound.BoundInstance.{BoundInstance}
-use Rattle.bound_source.specs.declared.bound.BoundKind.TheVariants.{Module}
-use Rattle.bound_source.specs.declared.bound.Bound.{Bound}
-use Rattle.bound_source.specs.Bits.{width_of, bit_name}
-use Rattle.design_size.specs.declared.size.Size.{Size}
-use Rattle.design_size.specs.Rounds.{empty_size}
-use Rattle.design_size.specs.Hierarchy.{wires_of, leads_to, bits_of, bits_by}
+use Rattle.bind_forms.specs.declared.bound.BoundWire.{BoundWire}
+use Rattle.bind_forms.specs.declared.bound.BoundInstance.{BoundInstance}
+use Rattle.bind_forms.specs.declared.bound.BoundKind.TheVariants.{Module}
+use Rattle.bind_forms.specs.declared.bound.Bound.{Bound}
+use Rattle.bind_forms.specs.Bits.{width_of, bit_name}
+use Rattle.flat_places.specs.declared.size.Size.{Size}
+use Rattle.flat_places.specs.Rounds.{empty_size}
+use Rattle.flat_places.specs.Hierarchy.{wires_of, leads_to, bits_of, bits_by}
 use Rattle.flat_places.specs.Places.{Place}
 use Rattle.flat_places.specs.Drives.{IsPlaceIn}
 use Rattle.flat_places.specs.Numbers.{number_in}
 use Rattle.flat_places.specs.Names.{names_along, dotted}
-use Rattle.flat_pieces.specs.Paths.{longer}
+use Rattle.flat_places.specs.Paths.{longer}
 use Rattle.flat_names.specs.declared.finding.Found.{Found}
 use Rattle.flat_names.specs.declared.finding.Inside.{Inside}
 

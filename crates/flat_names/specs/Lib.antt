@@ -1,4 +1,3 @@
-pub mod Design
+pub mod Measured
 pub mod Found
 pub mod Begins
-pub mod Sample

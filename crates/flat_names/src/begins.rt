@@ -1,16 +1,16 @@
 //! Where the bits of the wires and of the instances of modules begin.
 
 ghost use Rattle.std.specs.Prelude.{◌≡◌, ◌+◌, ◌<◌, ◌≤◌, ℕ, length, slice_index, slice_index_or, IfOk};
-ghost use Rattle.bound_source.specs.Bits.{width_of};
-ghost use Rattle.design_size.specs.Hierarchy.{module_of, bits_by};
-ghost use Rattle.design_size.specs.Rounds.{AreBelow, empty_size};
-ghost use Rattle.flat_names.specs.Design.{IsDesign};
+ghost use Rattle.bind_forms.specs.Bits.{width_of};
+ghost use Rattle.flat_places.specs.Hierarchy.{module_of, bits_by};
+ghost use Rattle.flat_places.specs.Rounds.{AreBelow, empty_size};
+ghost use Rattle.flat_names.specs.Measured.{IsMeasured};
 ghost use Rattle.flat_names.specs.Found.{size_bits};
 ghost use Rattle.flat_names.specs.Begins.{AreBegins, IsBegun, AreBegun};
 
-use crate::design::Design;
-use bound_source::{BoundInstance, BoundKind, BoundModule, BoundWire};
-use design_size::{Size, width};
+use crate::measured::MeasuredSource;
+use bind_forms::{BoundInstance, BoundKind, BoundModule, BoundWire};
+use flat_places::{Size, width};
 use rsfq_ids::list::NoMemory;
 use std::alloc::Global;
 
@@ -81,13 +81,13 @@ fn module_begins(alloc: Global, sizes: &[Size], owner: &BoundModule) -> Result<B
 }
 
 /// Where the bits of the wires and instances of each module begin.
-pub fn begins_of(alloc: Global, design: Design) -> Result<Vec<Begins>, NoMemory>
-    requires { IsDesign design }
-    ensures { IfOk result (λ begins. AreBegun design.entry.sizes.now design.entry.bound.now.modules begins.items) }
+pub fn begins_of(alloc: Global, source: MeasuredSource) -> Result<Vec<Begins>, NoMemory>
+    requires { IsMeasured source }
+    ensures { IfOk result (λ begins. AreBegun source.entry.sizes.now source.entry.bound.now.modules begins.items) }
 {
     let mut begins = Vec::new(alloc);
-    for owner in design.bound.modules.as_slice() {
-        begins.push(module_begins(alloc, design.sizes, owner)?)?;
+    for owner in source.bound.modules.as_slice() {
+        begins.push(module_begins(alloc, source.sizes, owner)?)?;
     }
     Ok(begins)
 }

@@ -2,16 +2,16 @@
 
 ghost use Rattle.std.specs.Prelude.{◌≡◌, ◌+◌, ◌<◌, ◌≤◌, length, sum_by, IfOk, MatchOption, MatchResult};
 ghost use Rattle.std.specs.Option.{option_copied};
-ghost use Rattle.bound_source.specs.Bits.{width_of};
-ghost use Rattle.design_size.specs.Hierarchy.{instances_of, bits_of, bit_count, IsDeeper};
-ghost use Rattle.flat_names.specs.Design.{IsDesign};
+ghost use Rattle.bind_forms.specs.Bits.{width_of};
+ghost use Rattle.flat_places.specs.Hierarchy.{instances_of, bits_of, bit_count, IsDeeper};
+ghost use Rattle.flat_names.specs.Measured.{IsMeasured};
 ghost use Rattle.flat_names.specs.Found.{IsInWire, size_bits, IsInInstance, IsPlaceNamed};
 ghost use Rattle.flat_names.specs.Begins.{AreBegins, AreBegun};
 
 use crate::begins::{Begins, last_begin};
-use crate::design::Design;
+use crate::measured::MeasuredSource;
 use crate::names::{bit_name, longer_path};
-use bound_source::{BoundKind, BoundWire};
+use bind_forms::{BoundKind, BoundWire};
 use rsfq_ids::list::NoMemory;
 use rsfq_ids::name::Name;
 use std::alloc::Global;
@@ -47,14 +47,14 @@ fn find_wire(wires: &[BoundWire], begins: &[u64], number: u64) -> Result<Found, 
 }
 
 /// The instance of a module that the place of a number, less the bits of the own wires, lies in, if it lies in one.
-fn find_instance(design: Design, at: u32, begins: &[u64], number: u64) -> Option<Inside>
-    requires there { at < length design.bound.now.modules }
-    requires begins { AreBegins (size_bits design.sizes.now) (instances_of design.bound.now at) begins.now }
+fn find_instance(source: MeasuredSource, at: u32, begins: &[u64], number: u64) -> Option<Inside>
+    requires there { at < length source.bound.now.modules }
+    requires begins { AreBegins (size_bits source.sizes.now) (instances_of source.bound.now at) begins.now }
     requires few { number ≤ 2000000 }
-    ensures { MatchOption result (sum_by (size_bits design.entry.sizes.now) (instances_of design.entry.bound.now at) ≤ number)
-        (IsInInstance design.entry.sizes.now (instances_of design.entry.bound.now at) number) }
+    ensures { MatchOption result (sum_by (size_bits source.entry.sizes.now) (instances_of source.entry.bound.now at) ≤ number)
+        (IsInInstance source.entry.sizes.now (instances_of source.entry.bound.now at) number) }
 {
-    let owner = &design.bound.modules.as_slice()[at as usize];
+    let owner = &source.bound.modules.as_slice()[at as usize];
     let instances = owner.instances.as_slice();
     let place = last_begin(begins, number);
     let rest = number - begins[place];
@@ -77,23 +77,23 @@ fn find_instance(design: Design, at: u32, begins: &[u64], number: u64) -> Option
 /// Takes as many steps as there are levels, each with two searches by halving.
 pub fn place_name(
     alloc: Global,
-    design: Design,
+    source: MeasuredSource,
     begins: &[Begins],
     levels: u32,
     at: u32,
     path: Option<&str>,
     number: u64,
 ) -> Result<Name, NoMemory>
-    requires design { IsDesign design }
-    requires begins { AreBegun design.sizes.now design.bound.now.modules begins.now }
-    requires there { at < length design.bound.now.modules }
+    requires source { IsMeasured source }
+    requires begins { AreBegun source.sizes.now source.bound.now.modules begins.now }
+    requires there { at < length source.bound.now.modules }
     requires levels { levels ≤ 64 }
-    requires deep { ¬ IsDeeper design.bound.now levels at }
-    requires few { bit_count design.bound.now levels at ≤ 2000000 }
-    requires number { number < bit_count design.bound.now levels at }
-    ensures { IfOk result (IsPlaceNamed design.entry.bound.now levels at (option_copied path.entry) number) }
+    requires deep { ¬ IsDeeper source.bound.now levels at }
+    requires few { bit_count source.bound.now levels at ≤ 2000000 }
+    requires number { number < bit_count source.bound.now levels at }
+    ensures { IfOk result (IsPlaceNamed source.entry.bound.now levels at (option_copied path.entry) number) }
 {
-    let owner = &design.bound.modules.as_slice()[at as usize];
+    let owner = &source.bound.modules.as_slice()[at as usize];
     let begin = &begins[at as usize];
     let rest = match find_wire(owner.wires.as_slice(), begin.wires.as_slice(), number) {
         Ok(found) => {
@@ -103,14 +103,14 @@ pub fn place_name(
         }
         Err(rest) => rest,
     };
-    let Some(found) = find_instance(design, at, begin.instances.as_slice(), rest) else {
+    let Some(found) = find_instance(source, at, begin.instances.as_slice(), rest) else {
         unreachable!()
     };
     let instance = &owner.instances.as_slice()[found.at];
     let path = longer_path(alloc, path, instance.name.as_str())?;
     place_name(
         alloc,
-        design,
+        source,
         begins,
         levels - 1,
         found.inner,

@@ -5,14 +5,11 @@
 #![tactic(auto)]
 
 mod begins;
-mod design;
 mod finding;
+mod measured;
 mod names;
 
 pub use begins::{Begins, begins_of};
-pub use design::Design;
 pub use finding::place_name;
+pub use measured::MeasuredSource;
 pub use names::{bit_name, longer_path};
-
-#[cfg(test)]
-mod tests;

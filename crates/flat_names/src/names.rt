@@ -2,8 +2,8 @@
 
 ghost use Rattle.std.specs.Prelude.{◌≡◌, ◌<◌, Some, IfOk};
 ghost use Rattle.std.specs.Option.{option_copied};
-ghost use Rattle.bound_source.specs.Bits.{width_of, index_at, bit_name};
-ghost use Rattle.flat_pieces.specs.Paths.{longer};
+ghost use Rattle.bind_forms.specs.Bits.{width_of, index_at, bit_name};
+ghost use Rattle.flat_places.specs.Paths.{longer};
 
 use itoa::Buffer;
 use rsfq_ids::list::NoMemory;

@@ -5,14 +5,14 @@ use Rattle.std.proofs.lemmas.List.{length-map}
 use Rattle.std.proofs.lemmas.List.Concat.{length-flat_map}
 use Rattle.std.proofs.lemmas.List.FromFn.{length-map-range_with_len}
 use Rattle.std.proofs.lemmas.List.Sums.{sum_by-cons}
-use Rattle.bound_source.specs.declared.bound.BoundKind.{BoundKind}
-use Rattle.bound_source.specs.declared.bound.BoundKind.TheVariants.{Module, Cell}
-use Rattle.bound_source.specs.declared.bound.BoundInstance.{BoundInstance}
-use Rattle.bound_source.specs.declared.bound.BoundWire.{BoundWire}
-use Rattle.bound_source.specs.declared.bound.Bound.{Bound}
-use Rattle.bound_source.specs.Bits.{width_of}
-use Rattle.design_size.specs.Hierarchy.{instances_of, wires_of, bits_of, bits_by, cell_count, bit_count}
-use Rattle.design_size.specs.Hierarchy as size
+use Rattle.bind_forms.specs.declared.bound.BoundKind.{BoundKind}
+use Rattle.bind_forms.specs.declared.bound.BoundKind.TheVariants.{Module, Cell}
+use Rattle.bind_forms.specs.declared.bound.BoundInstance.{BoundInstance}
+use Rattle.bind_forms.specs.declared.bound.BoundWire.{BoundWire}
+use Rattle.bind_forms.specs.declared.bound.Bound.{Bound}
+use Rattle.bind_forms.specs.Bits.{width_of}
+use Rattle.flat_places.specs.Hierarchy.{instances_of, wires_of, bits_of, bits_by, cell_count, bit_count}
+use Rattle.flat_places.specs.Hierarchy as size
 use Rattle.flat_places.specs.Places.{Place, CellAt, own_places, places_by, cells_by, places_in, cells_in}
 
 sum_numbered : {X : Type 0} (f : ℕ × X → ℕ) (g : X → ℕ) → ((n : ℕ) (x : X) → f (n, x) ≡ g x) → (n : ℕ) (xs : List X) → sum_by f (enumerate_from n xs) ≡ sum_by g xs

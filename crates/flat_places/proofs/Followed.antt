@@ -4,33 +4,24 @@ use Rattle.std.specs.Prelude.{slice_get, unwrap_or, option_to_list, IsSome}
 use Rattle.std.specs.Option.{option_map, option_and_then}
 use Rattle.std.specs.List.{flat_map, enumerate_from, zip}
 use Rattle.std.proofs.lemmas.Option.{same_Some}
-use Rattle.bound_source.specs.declared.bound.BoundKind.{BoundKind}
-use Rattle.bound_source.specs.declared.bound.BoundKind.TheVariants.{Module, Cell}
-use Rattle.bound_source.specs.declared.bound.BoundAssign.{BoundAssign}
-use Rattle.bound_source.specs.declared.bound.BoundLink.{BoundLink}
-use Rattle.bound_source.specs.declared.bound.BoundPort.{BoundPort}
-use Rattle.bound_source.specs.declared.bound.BoundInstance.{BoundInstance}
-use Rattle.bound_source.specs.declared.bound.BoundModule.{BoundModule}
-use Rattle.bound_source.specs.declared.bound.Bound.{Bound}
-use Rattle.design_size.specs.Hierarchy.{instances_of, module_of, leads_to, IsDeeper}
+use Rattle.bind_forms.specs.declared.bound.BoundKind.{BoundKind}
+use Rattle.bind_forms.specs.declared.bound.BoundKind.TheVariants.{Module, Cell}
+use Rattle.bind_forms.specs.declared.bound.BoundAssign.{BoundAssign}
+use Rattle.bind_forms.specs.declared.bound.BoundLink.{BoundLink}
+use Rattle.bind_forms.specs.declared.bound.BoundPort.{BoundPort}
+use Rattle.bind_forms.specs.declared.bound.BoundInstance.{BoundInstance}
+use Rattle.bind_forms.specs.declared.bound.BoundModule.{BoundModule}
+use Rattle.bind_forms.specs.declared.bound.Bound.{Bound}
+use Rattle.flat_places.specs.Hierarchy.{instances_of, module_of, leads_to, IsDeeper}
 use Rattle.flat_places.specs.Places.{Place, deeper_place, part_bits}
 use Rattle.flat_places.specs.Drives.{Assigns, LinksModule, Follows, assign, into, out}
 use Rattle.flat_places.specs.Hops.{Hop, deeper_hop, own_place, assigns_of, ports_of, assign_hops, link_hop, link_hops, hops_by, hops_in}
-use Rattle.flat_places.proofs.Joined.{joined_got, got_left, got_right, map_got, got_map, flat_got, got_flat}
+use Rattle.flat_places.specs.Assigns.{different}
+use Rattle.flat_places.proofs.Joined.{joined_got, got_left, got_right, map_got, got_map, flat_got, got_flat, listed_got, got_listed}
+use Rattle.flat_places.proofs.Different.{different_got, got_different}
+use Rattle.flat_places.proofs.Modules.{instances_at, assigns_at, ports_at}
 
 -- ---- lists
-
-pub listed_got : {X Y : Type 0} (f : X → List Y) (xs : List X) (k : ℕ) (y : Y) → slice_get (flat_map f xs) k ≡ Some y → (i : ℕ) × (x : X) × (j : ℕ) × (slice_get xs i ≡ Some x) × (slice_get (f x) j ≡ Some y)
-listed_got f [] k y e = absurd cc
-listed_got f (x ∷ xs) k y e = elim (joined_got (f x) (flat_map f xs) k y e) [
-  | inl h ↦ (0, x, k, refl, h.1)
-  | inr h ↦ (let r = listed_got f xs h.0 y h.2 in (suc r.0, r.1, r.2, r.3, r.4))
-]
-
-pub got_listed : {X Y : Type 0} (f : X → List Y) (xs : List X) (i : ℕ) (x : X) (j : ℕ) (y : Y) → slice_get xs i ≡ Some x → slice_get (f x) j ≡ Some y → (k : ℕ) × (slice_get (flat_map f xs) k ≡ Some y)
-got_listed f [] i x j y e g = absurd cc
-got_listed {X} {Y} f (w ∷ xs) zero x j y e g = (j, got_left (f w) (flat_map f xs) j y (subst (λ (v : X). slice_get (f v) j ≡ Some y) (sym (same_Some w x e)) g))
-got_listed f (w ∷ xs) (suc i) x j y e g = let r = got_listed f xs i x j y e g in (length (f w) + r.0, got_right (f w) (flat_map f xs) r.0 y r.1)
 
 zip_got : {X Y : Type 0} (xs : List X) (ys : List Y) (k : ℕ) (p : X × Y) → slice_get (zip xs ys) k ≡ Some p → (slice_get xs k ≡ Some p.0) × (slice_get ys k ≡ Some p.1)
 zip_got [] ys k p e = absurd cc
@@ -61,15 +52,6 @@ owner_of bound at = go (slice_get bound.modules at) refl where
   go : (o : Option BoundModule) → slice_get bound.modules at ≡ o → (slice_get bound.modules at ≡ None) ⊎ ((owner : BoundModule) × (slice_get bound.modules at ≡ Some owner))
   go None e = inl e
   go (Some owner) e = inr (owner, e)
-
-instances_at : (bound : Bound) (at : ℕ) (owner : BoundModule) → slice_get bound.modules at ≡ Some owner → instances_of bound at ≡ owner.instances
-instances_at bound at owner e = ap (λ (o : Option BoundModule). unwrap_or (option_map (λ (m : BoundModule). m.instances) o) []) e
-
-assigns_at : (bound : Bound) (at : ℕ) (owner : BoundModule) → slice_get bound.modules at ≡ Some owner → assigns_of bound at ≡ owner.assigns
-assigns_at bound at owner e = ap (λ (o : Option BoundModule). unwrap_or (option_map (λ (m : BoundModule). m.assigns) o) []) e
-
-ports_at : (bound : Bound) (at : ℕ) (owner : BoundModule) → slice_get bound.modules at ≡ Some owner → ports_of bound at ≡ owner.ports
-ports_at bound at owner e = ap (λ (o : Option BoundModule). unwrap_or (option_map (λ (m : BoundModule). m.ports) o) []) e
 
 -- an item of a list that is empty where there is no module shows that there is one
 pub owner_there : {X : Type 0} (bound : Bound) (at : ℕ) (f : BoundModule → List X) (k : ℕ) (x : X) → slice_get (unwrap_or (option_map f (slice_get bound.modules at)) []) k ≡ Some x →
@@ -118,11 +100,11 @@ deeper_follows bound at instance inner declared _ _ e k (out path i port bit out
   links = l.links;
 })
 
-hops_none : (bound : Bound) (at : ℕ) → hops_in bound 0 at ≡ []
+pub hops_none : (bound : Bound) (at : ℕ) → hops_in bound 0 at ≡ []
 unfolding hops_in
 hops_none bound at = refl
 
-hops_more : (bound : Bound) (levels at : ℕ) → hops_in bound (suc levels) at ≡
+pub hops_more : (bound : Bound) (levels at : ℕ) → hops_in bound (suc levels) at ≡
     flat_map assign_hops (assigns_of bound at)
     ++ flat_map (λ ((instance, declared) : ℕ × BoundInstance). hops_by bound (hops_in bound levels) instance declared.links declared.kind) (enumerate_from 0 (instances_of bound at))
 unfolding hops_in
@@ -132,11 +114,12 @@ hops_more bound levels at = refl
 
 assign_follows : (bound : Bound) (at i k : ℕ) (one : BoundAssign) (hop : Hop) → slice_get (assigns_of bound at) i ≡ Some one → slice_get (assign_hops one) k ≡ Some hop → Follows bound at hop.from hop.to
 assign_follows bound at i k one hop e g =
-    let o = owner_there bound at (λ (m : BoundModule). m.assigns) i one e in
+    let o = owner_there bound at (λ (m : BoundModule). different m.assigns) i one e in
+    let listed = different_got o.0.assigns i one o.2 in
     let m = map_got (λ (bits : (ℕ × ℕ) × (ℕ × ℕ)). record { from = own_place bits.0; to = own_place bits.1 }) (zip (part_bits one.from) (part_bits one.to)) k hop g in
     let z = zip_got (part_bits one.from) (part_bits one.to) k m.0 m.1 in
     subst (λ (h : Hop). Follows bound at h.from h.to) m.2
-    (assign [] o.0 m.0.0 m.0.1 (at, refl, o.1) (record { at = i; assign = one; listed = o.2; bit = k; from_bit = z.0; to_bit = z.1 }))
+    (assign [] o.0 m.0.0 m.0.1 (at, refl, o.1) (record { at = listed.0; assign = one; listed = listed.1; bit = k; from_bit = z.0; to_bit = z.1 }))
 
 link_follows : (bound : Bound) (at instance inner i k : ℕ) (declared : BoundInstance) (link : BoundLink) (hop : Hop) → slice_get (instances_of bound at) instance ≡ Some declared → declared.kind ≡ Module inner →
     slice_get declared.links i ≡ Some link → slice_get (link_hops instance (ports_of bound inner) link) k ≡ Some hop → Follows bound at hop.from hop.to
@@ -285,10 +268,11 @@ linked bound levels at instance port bit output outside l =
 assigned : (bound : Bound) (levels at : ℕ) (owner : BoundModule) (from to : ℕ × ℕ) → slice_get bound.modules at ≡ Some owner → Assigns owner from to →
     (k : ℕ) × (slice_get (hops_in bound (suc levels) at) k ≡ Some (record { from = own_place from; to = own_place to }))
 assigned bound levels at owner from to owner_is a =
-    let there : slice_get (assigns_of bound at) a.at ≡ Some a.assign = subst (λ (xs : List BoundAssign). slice_get xs a.at ≡ Some a.assign) (sym (assigns_at bound at owner owner_is)) a.listed in
+    let once = got_different owner.assigns a.at a.assign a.listed in
+    let there : slice_get (assigns_of bound at) once.0 ≡ Some a.assign = subst (λ (xs : List BoundAssign). slice_get xs once.0 ≡ Some a.assign) (sym (assigns_at bound at owner owner_is)) once.1 in
     let z = got_zip (part_bits a.assign.from) (part_bits a.assign.to) a.bit from to a.from_bit a.to_bit in
     let m = got_map (λ (bits : (ℕ × ℕ) × (ℕ × ℕ)). record { from = own_place bits.0; to = own_place bits.1 }) (zip (part_bits a.assign.from) (part_bits a.assign.to)) a.bit (from, to) z in
-    let l = got_listed assign_hops (assigns_of bound at) a.at a.assign a.bit (record { from = own_place from; to = own_place to }) there m in (
+    let l = got_listed assign_hops (assigns_of bound at) once.0 a.assign a.bit (record { from = own_place from; to = own_place to }) there m in (
       l.0,
       subst (λ (hs : List Hop). slice_get hs l.0 ≡ Some (record { from = own_place from; to = own_place to })) (sym (hops_more bound levels at))
           (got_left (flat_map assign_hops (assigns_of bound at)) _ l.0 (record { from = own_place from; to = own_place to }) l.1),

@@ -2,8 +2,8 @@
 use Rattle.std.proofs.Common.{◌≡◌, ◌∙◌, ◌<◌, ◌+◌, ◌⊎◌, inl, inr, ℕ, zero, suc, List, [], ◌∷◌, ◌++◌, map, take, length, Option, Some, None, refl, sym, ap, subst, arith, length-append}
 use Rattle.std.specs.Prelude.{slice_get}
 use Rattle.std.specs.Option.{option_map}
-use Rattle.std.specs.List.{flat_map, enumerate_from, range_with_len}
-use Rattle.std.proofs.lemmas.Option.{same_Some, slice_get-map}
+use Rattle.std.specs.List.{All, flat_map, enumerate_from, range_with_len}
+use Rattle.std.proofs.lemmas.Option.{same_Some, slice_get-map, slice_get_within, get_or_from_slice_get}
 
 -- an item of two lists joined is of the first, or of the second
 pub joined_got : {X : Type 0} (xs ys : List X) (k : ℕ) (x : X) → slice_get (xs ++ ys) k ≡ Some x → ((k < length xs) × (slice_get xs k ≡ Some x)) ⊎ ((j : ℕ) × (k ≡ length xs + j) × (slice_get ys j ≡ Some x))
@@ -68,3 +68,25 @@ got_flat {X} {Y} f n (w ∷ xs) (suc i) x j y e g =
     let len = length-append (f (n, w)) (flat_map f (enumerate_from (n + 1) (take i xs))) in
     let k : length (f (n, w)) + (length (flat_map f (enumerate_from (n + 1) (take i xs))) + j) ≡ length (flat_map f (enumerate_from n (take (suc i) (w ∷ xs)))) + j = omega (arith, len) in
     subst (λ (m : ℕ). slice_get (f (n, w) ++ flat_map f (enumerate_from (n + 1) xs)) m ≡ Some y) k (got_right (f (n, w)) (flat_map f (enumerate_from (n + 1) xs)) (length (flat_map f (enumerate_from (n + 1) (take i xs))) + j) y rest)
+
+-- the same of items that are not numbered
+pub listed_got : {X Y : Type 0} (f : X → List Y) (xs : List X) (k : ℕ) (y : Y) → slice_get (flat_map f xs) k ≡ Some y → (i : ℕ) × (x : X) × (j : ℕ) × (slice_get xs i ≡ Some x) × (slice_get (f x) j ≡ Some y)
+listed_got f [] k y e = absurd cc
+listed_got f (x ∷ xs) k y e = elim (joined_got (f x) (flat_map f xs) k y e) [
+  | inl h ↦ (0, x, k, refl, h.1)
+  | inr h ↦ (let r = listed_got f xs h.0 y h.2 in (suc r.0, r.1, r.2, r.3, r.4))
+]
+
+pub got_listed : {X Y : Type 0} (f : X → List Y) (xs : List X) (i : ℕ) (x : X) (j : ℕ) (y : Y) → slice_get xs i ≡ Some x → slice_get (f x) j ≡ Some y → (k : ℕ) × (slice_get (flat_map f xs) k ≡ Some y)
+got_listed f [] i x j y e g = absurd cc
+got_listed {X} {Y} f (w ∷ xs) zero x j y e g = (j, got_left (f w) (flat_map f xs) j y (subst (λ (v : X). slice_get (f v) j ≡ Some y) (sym (same_Some w x e)) g))
+got_listed f (w ∷ xs) (suc i) x j y e g = let r = got_listed f xs i x j y e g in (length (f w) + r.0, got_right (f w) (flat_map f xs) r.0 y r.1)
+
+-- what holds of each item holds of one
+pub all_got : {X : Type 0} (P : X → Type 0) (xs : List X) (k : ℕ) (x : X) → All P xs → slice_get xs k ≡ Some x → P x
+all_got {X} P xs k x all e = subst P (get_or_from_slice_get xs k x x e) (all k x (slice_get_within xs k x e))
+
+-- a value that comes from an optional one comes from a value
+pub mapped_from : {X Y : Type 0} (f : X → Y) (o : Option X) (y : Y) → option_map f o ≡ Some y → (x : X) × (o ≡ Some x) × (f x ≡ y)
+mapped_from f None y e = absurd cc
+mapped_from f (Some x) y e = (x, refl, same_Some (f x) y e)

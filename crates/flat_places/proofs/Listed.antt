@@ -4,23 +4,21 @@ use Rattle.std.specs.Prelude.{slice_get, unwrap_or}
 use Rattle.std.specs.Option.{option_map}
 use Rattle.std.specs.List.{flat_map, enumerate_from, range_with_len}
 use Rattle.std.proofs.lemmas.Option.{same_Some}
-use Rattle.bound_source.specs.declared.bound.BoundKind.{BoundKind}
-use Rattle.bound_source.specs.declared.bound.BoundKind.TheVariants.{Module, Cell}
-use Rattle.bound_source.specs.declared.bound.BoundInstance.{BoundInstance}
-use Rattle.bound_source.specs.declared.bound.BoundWire.{BoundWire}
-use Rattle.bound_source.specs.declared.bound.BoundModule.{BoundModule}
-use Rattle.bound_source.specs.declared.bound.Bound.{Bound}
-use Rattle.bound_source.specs.Bits.{width_of}
-use Rattle.design_size.specs.Hierarchy.{instances_of, wires_of, IsDeeper}
+use Rattle.bind_forms.specs.declared.bound.BoundKind.{BoundKind}
+use Rattle.bind_forms.specs.declared.bound.BoundKind.TheVariants.{Module, Cell}
+use Rattle.bind_forms.specs.declared.bound.BoundInstance.{BoundInstance}
+use Rattle.bind_forms.specs.declared.bound.BoundWire.{BoundWire}
+use Rattle.bind_forms.specs.declared.bound.BoundModule.{BoundModule}
+use Rattle.bind_forms.specs.declared.bound.Bound.{Bound}
+use Rattle.bind_forms.specs.Bits.{width_of}
+use Rattle.flat_places.specs.Hierarchy.{instances_of, wires_of, IsDeeper}
 use Rattle.flat_places.specs.Places.{Place, own_places, deeper_place, places_by, places_in}
 use Rattle.flat_places.specs.Numbers.{number_in}
 use Rattle.flat_places.specs.Drives.{IsPlaceIn}
 use Rattle.flat_places.proofs.Joined.{joined_got, got_left, got_right, map_got, got_map, range_got, got_range, flat_got, got_flat}
 use Rattle.flat_places.proofs.Numbered.{number_is, places_none, places_more}
 use Rattle.flat_places.proofs.Followed.{owner_there, leads_on, leads_through, not_deeper}
-
-wires_at : (bound : Bound) (at : ℕ) (owner : BoundModule) → slice_get bound.modules at ≡ Some owner → wires_of bound at ≡ owner.wires
-wires_at bound at owner e = ap (λ (o : Option BoundModule). unwrap_or (option_map (λ (m : BoundModule). m.wires) o) []) e
+use Rattle.flat_places.proofs.Modules.{wires_at}
 
 -- ---- each listed place is there
 

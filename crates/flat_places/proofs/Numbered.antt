@@ -3,24 +3,24 @@ use Rattle.std.proofs.Common.{◌≡◌, ◌∙◌, ◌+◌, inl, inr, ℕ, zero
 use Rattle.std.specs.Prelude.{slice_get, unwrap_or}
 use Rattle.std.specs.Option.{option_map, option_and_then}
 use Rattle.std.specs.List.{flat_map, enumerate_from, range_with_len}
-use Rattle.bound_source.specs.declared.bound.BoundKind.{BoundKind}
-use Rattle.bound_source.specs.declared.bound.BoundKind.TheVariants.{Module, Cell}
-use Rattle.bound_source.specs.declared.bound.BoundInstance.{BoundInstance}
-use Rattle.bound_source.specs.declared.bound.BoundWire.{BoundWire}
-use Rattle.bound_source.specs.declared.bound.Bound.{Bound}
-use Rattle.bound_source.specs.Bits.{width_of}
-use Rattle.design_size.specs.Hierarchy.{instances_of, wires_of, module_of, bits_of, bits_by, bit_count}
+use Rattle.bind_forms.specs.declared.bound.BoundKind.{BoundKind}
+use Rattle.bind_forms.specs.declared.bound.BoundKind.TheVariants.{Module, Cell}
+use Rattle.bind_forms.specs.declared.bound.BoundInstance.{BoundInstance}
+use Rattle.bind_forms.specs.declared.bound.BoundWire.{BoundWire}
+use Rattle.bind_forms.specs.declared.bound.Bound.{Bound}
+use Rattle.bind_forms.specs.Bits.{width_of}
+use Rattle.flat_places.specs.Hierarchy.{instances_of, wires_of, module_of, bits_of, bits_by, bit_count}
 use Rattle.flat_places.specs.Places.{Place, own_places, deeper_place, places_by, places_in}
 use Rattle.flat_places.specs.Numbers.{bits_before, number_in}
 use Rattle.flat_places.proofs.Joined.{joined_got, map_got, range_got, flat_got}
 use Rattle.flat_places.proofs.Counted.{own_length, length_numbered, places_by_length, places_length}
 
-number_own : (bound : Bound) (levels at wire bit : ℕ) → number_in bound levels at [] wire bit ≡ bits_of (take wire (wires_of bound at)) + bit
+pub number_own : (bound : Bound) (levels at wire bit : ℕ) → number_in bound levels at [] wire bit ≡ bits_of (take wire (wires_of bound at)) + bit
 unfolding number_in
 number_own bound zero at wire bit = refl
 number_own bound (suc levels) at wire bit = refl
 
-number_deeper : (bound : Bound) (levels at instance : ℕ) (path : List ℕ) (wire bit : ℕ) → number_in bound (suc levels) at (instance ∷ path) wire bit ≡
+pub number_deeper : (bound : Bound) (levels at instance : ℕ) (path : List ℕ) (wire bit : ℕ) → number_in bound (suc levels) at (instance ∷ path) wire bit ≡
     bits_before bound levels at instance + unwrap_or (option_map (λ inner. number_in bound levels inner path wire bit) (option_and_then (λ declared. module_of declared.kind) (slice_get (instances_of bound at) instance))) 0
 unfolding number_in
 number_deeper bound levels at instance path wire bit = refl

@@ -9,9 +9,9 @@ use Rattle.rsfq_ids.specs.declared.circuit.Pin.{Pin}
 use Rattle.rsfq_ids.specs.declared.circuit.Driver.{Driver}
 use Rattle.rsfq_ids.specs.declared.circuit.Reader.{Reader}
 use Rattle.rsfq_ids.specs.WellFormed.{drivers_of, readers_of}
-use Rattle.bound_source.specs.declared.bound.BoundPort.{BoundPort}
-use Rattle.bound_source.specs.declared.bound.Bound.{Bound}
-use Rattle.bound_source.specs.Bits.{bit_names}
+use Rattle.bind_forms.specs.declared.bound.BoundPort.{BoundPort}
+use Rattle.bind_forms.specs.declared.bound.Bound.{Bound}
+use Rattle.bind_forms.specs.Bits.{bit_names}
 use Rattle.flat_places.specs.Places.{Place, cells_of}
 use Rattle.flat_places.specs.Drives.{Drives, ReadsAt}
 use Rattle.flat_places.specs.Names.{cell_name}

@@ -6,16 +6,16 @@ use Rattle.rsfq_ids.specs.declared.circuit.Driver.{Driver}
 use Rattle.rsfq_ids.specs.declared.circuit.Driver.TheVariants as driver
 use Rattle.rsfq_ids.specs.declared.circuit.Reader.{Reader}
 use Rattle.rsfq_ids.specs.declared.circuit.Reader.TheVariants as reader
-use Rattle.bound_source.specs.declared.bound.BoundKind.TheVariants.{Module}
-use Rattle.bound_source.specs.declared.bound.BoundInstance.{BoundInstance}
-use Rattle.bound_source.specs.declared.bound.BoundAssign.{BoundAssign}
-use Rattle.bound_source.specs.declared.bound.BoundLink.{BoundLink}
-use Rattle.bound_source.specs.declared.bound.BoundPort.{BoundPort}
-use Rattle.bound_source.specs.declared.bound.BoundWire.{BoundWire}
-use Rattle.bound_source.specs.declared.bound.BoundModule.{BoundModule}
-use Rattle.bound_source.specs.Bits.{width_of}
-use Rattle.bound_source.specs.declared.bound.Bound.{Bound}
-use Rattle.design_size.specs.Hierarchy.{leads_to}
+use Rattle.bind_forms.specs.declared.bound.BoundKind.TheVariants.{Module}
+use Rattle.bind_forms.specs.declared.bound.BoundInstance.{BoundInstance}
+use Rattle.bind_forms.specs.declared.bound.BoundAssign.{BoundAssign}
+use Rattle.bind_forms.specs.declared.bound.BoundLink.{BoundLink}
+use Rattle.bind_forms.specs.declared.bound.BoundPort.{BoundPort}
+use Rattle.bind_forms.specs.declared.bound.BoundWire.{BoundWire}
+use Rattle.bind_forms.specs.declared.bound.BoundModule.{BoundModule}
+use Rattle.bind_forms.specs.Bits.{width_of}
+use Rattle.bind_forms.specs.declared.bound.Bound.{Bound}
+use Rattle.flat_places.specs.Hierarchy.{leads_to}
 use Rattle.flat_places.specs.Places.{Place, CellAt, cells_of, part_bits, port_places}
 
 -- the module that a path of instances leads to from another

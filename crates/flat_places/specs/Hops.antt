@@ -2,15 +2,16 @@
 use Rattle.std.specs.Prelude.{ℕ, zero, suc, Bool, true, false, List, [], ◌∷◌, ◌++◌, map, slice_get, unwrap_or, option_to_list}
 use Rattle.std.specs.Option.{option_map}
 use Rattle.std.specs.List.{flat_map, enumerate_from, zip}
-use Rattle.bound_source.specs.declared.bound.BoundKind.{BoundKind}
-use Rattle.bound_source.specs.declared.bound.BoundKind.TheVariants.{Module, Cell}
-use Rattle.bound_source.specs.declared.bound.BoundAssign.{BoundAssign}
-use Rattle.bound_source.specs.declared.bound.BoundLink.{BoundLink}
-use Rattle.bound_source.specs.declared.bound.BoundPort.{BoundPort}
-use Rattle.bound_source.specs.declared.bound.BoundInstance.{BoundInstance}
-use Rattle.bound_source.specs.declared.bound.Bound.{Bound}
-use Rattle.design_size.specs.Hierarchy.{instances_of}
+use Rattle.bind_forms.specs.declared.bound.BoundKind.{BoundKind}
+use Rattle.bind_forms.specs.declared.bound.BoundKind.TheVariants.{Module, Cell}
+use Rattle.bind_forms.specs.declared.bound.BoundAssign.{BoundAssign}
+use Rattle.bind_forms.specs.declared.bound.BoundLink.{BoundLink}
+use Rattle.bind_forms.specs.declared.bound.BoundPort.{BoundPort}
+use Rattle.bind_forms.specs.declared.bound.BoundInstance.{BoundInstance}
+use Rattle.bind_forms.specs.declared.bound.Bound.{Bound}
+use Rattle.flat_places.specs.Hierarchy.{instances_of}
 use Rattle.flat_places.specs.Places.{Place, deeper_place, part_bits}
+use Rattle.flat_places.specs.Assigns.{different}
 
 -- one place, and one that follows it
 pub record Hop : Type 0 where
@@ -25,8 +26,9 @@ deeper_hop instance hop = record { from = deeper_place instance hop.from; to = d
 abbrev pub own_place : ℕ × ℕ → Place
 own_place bit = record { path = []; wire = bit.0; bit = bit.1 }
 
+-- the assigns of a module, each once
 abbrev pub assigns_of : Bound → ℕ → List BoundAssign
-assigns_of bound at = unwrap_or (option_map (λ owner. owner.assigns) (slice_get bound.modules at)) []
+assigns_of bound at = unwrap_or (option_map (λ owner. different owner.assigns) (slice_get bound.modules at)) []
 
 abbrev pub ports_of : Bound → ℕ → List BoundPort
 ports_of bound at = unwrap_or (option_map (λ owner. owner.ports) (slice_get bound.modules at)) []

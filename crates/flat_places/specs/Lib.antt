@@ -1,7 +1,16 @@
 pub mod Places
 pub mod Numbers
 pub mod Drives
+pub mod Assigns
 pub mod Hops
 pub mod Names
 pub mod Circuit
 pub mod Refusal
+pub mod Hierarchy
+pub mod Sizes
+pub mod Rounds
+pub mod Bits
+pub mod Paths
+pub mod Pieces
+pub mod Numbered
+pub mod Whole

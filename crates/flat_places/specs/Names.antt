@@ -8,9 +8,9 @@ use Rattle.rsfq_ids.specs.declared.circuit.Driver.{Driver}
 use Rattle.rsfq_ids.specs.declared.circuit.Driver.TheVariants as driver
 use Rattle.rsfq_ids.specs.declared.circuit.Reader.{Reader}
 use Rattle.rsfq_ids.specs.declared.circuit.Reader.TheVariants as reader
-use Rattle.bound_source.specs.declared.bound.Bound.{Bound}
-use Rattle.bound_source.specs.Bits.{bit_name, port_bit_names}
-use Rattle.design_size.specs.Hierarchy.{instances_of, wires_of, module_of, leads_to}
+use Rattle.bind_forms.specs.declared.bound.Bound.{Bound}
+use Rattle.bind_forms.specs.Bits.{bit_name, port_bit_names}
+use Rattle.flat_places.specs.Hierarchy.{instances_of, wires_of, module_of, leads_to}
 use Rattle.flat_places.specs.Places.{Place, CellAt, cells_of}
 
 -- the names of the instances of a path that begins in a module

@@ -1,8 +1,8 @@
 -- The number of a place among those inside a module, computed from its path, wire and bit.
 use Rattle.std.specs.Prelude.{ℕ, zero, suc, ◌+◌, List, [], ◌∷◌, take, sum_by, slice_get, unwrap_or}
 use Rattle.std.specs.Option.{option_map, option_and_then}
-use Rattle.bound_source.specs.declared.bound.Bound.{Bound}
-use Rattle.design_size.specs.Hierarchy.{instances_of, wires_of, module_of, bits_of, bits_by, bit_count}
+use Rattle.bind_forms.specs.declared.bound.Bound.{Bound}
+use Rattle.flat_places.specs.Hierarchy.{instances_of, wires_of, module_of, bits_of, bits_by, bit_count}
 
 -- how many wire bits of a module come before those of one of its instances
 abbrev pub bits_before : Bound → ℕ → ℕ → ℕ → ℕ

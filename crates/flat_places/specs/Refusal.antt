@@ -4,7 +4,7 @@ use Rattle.std.specs.List.{AllPairs}
 use Rattle.rsfq_ids.specs.declared.table.CellTable.{CellTable}
 use Rattle.rsfq_ids.specs.declared.circuit.Driver.{Driver}
 use Rattle.rsfq_ids.specs.declared.circuit.Reader.{Reader}
-use Rattle.bound_source.specs.declared.bound.Bound.{Bound}
+use Rattle.bind_forms.specs.declared.bound.Bound.{Bound}
 use Rattle.flat_places.specs.Places.{Place, places_of}
 use Rattle.flat_places.specs.Drives.{Drives, Follows}
 use Rattle.flat_places.specs.Circuit.{ReadsFromDriver}

@@ -7,10 +7,10 @@ use Rattle.std.proofs.lemmas.Result.{IfErr-weaker}
 use Rattle.rsfq_ids.specs.declared.table.CellTable.{CellTable}
 use Rattle.rsfq_ids.specs.declared.circuit.Flat.{Flat}
 use Rattle.rsfq_ids.specs.declared.circuit.Driver.{Driver}
-use Rattle.bound_source.specs.declared.bound.Bound.{Bound}
-use Rattle.design_size.specs.declared.limits.SizeFault.{SizeFault}
-use Rattle.design_size.specs.declared.limits.SizeFault.TheVariants as limit
-use Rattle.design_size.specs.Sizes.{PassesLimit}
+use Rattle.bind_forms.specs.declared.bound.Bound.{Bound}
+use Rattle.flat_places.specs.declared.limits.SizeFault.{SizeFault}
+use Rattle.flat_places.specs.declared.limits.SizeFault.TheVariants as limit
+use Rattle.flat_places.specs.Sizes.{PassesLimit}
 use Rattle.flat_places.specs.Circuit.{IsCircuitOf}
 use Rattle.flat_places.specs.Names.{place_name, driver_name, reader_name}
 use Rattle.flat_places.specs.Places.{Place, places_of}
@@ -18,7 +18,7 @@ use Rattle.flat_places.specs.Refusal.{IsFirstTwo}
 use Rattle.flattener.specs.declared.fault.FlatFault.{FlatFault}
 use Rattle.flattener.specs.declared.fault.FlatFault.TheVariants.{NestingLimit, CellLimit, WireLimit, TwoDrivers, AliasLoop, NoDriver, Memory}
 use Rattle.flattener.specs.Limits.{flat_fault}
-use Rattle.flattener.specs.Refused.{shape_of, drivers_in, readers_in, IsSound, NamesTwo, NamesUndriven, IsRefused, AgreeButRings}
+use Rattle.flattener.specs.Refused.{shape_of, drivers_in, readers_in, IsSound, NamesTwo, NamesUndriven, IsFlatFault, AgreeButRings}
 use Rattle.flattener.proofs.Excluding.{Excludes, excluded}
 
 -- ---- limits
@@ -38,7 +38,7 @@ one_limit bound (limit.Wires count) (limit.Wires most) a b p q = ap limit.Wires 
 one_limit bound (limit.Wires count) limit.Memory a b p q = absurd (b refl)
 one_limit bound limit.Memory other a b p q = absurd (a refl)
 
-limit_agrees : (table : CellTable) (bound : Bound) → Excludes table bound → (one : SizeFault) → one ≢ limit.Memory → PassesLimit bound one → (other : FlatFault) → IsRefused table bound other → other ≢ Memory → flat_fault one ≡ other
+limit_agrees : (table : CellTable) (bound : Bound) → Excludes table bound → (one : SizeFault) → one ≢ limit.Memory → PassesLimit bound one → (other : FlatFault) → IsFlatFault table bound other → other ≢ Memory → flat_fault one ≡ other
 limit_agrees table bound laws one named p (NestingLimit count) r known = ap flat_fault (one_limit bound one (limit.Nesting count) named (λ e. cc) p r)
 limit_agrees table bound laws one named p (CellLimit count) r known = ap flat_fault (one_limit bound one (limit.Cells count) named (λ e. cc) p r)
 limit_agrees table bound laws one named p (WireLimit count) r known = ap flat_fault (one_limit bound one (limit.Wires count) named (λ e. cc) p r)
@@ -114,7 +114,7 @@ undriven_agree table bound pin other n m =
 
 -- ---- all causes
 
-agrees : (table : CellTable) (bound : Bound) → Excludes table bound → (why : FlatFault) → IsRefused table bound why → why ≢ Memory → (other : FlatFault) → other ≢ Memory → IsRefused table bound other → AgreeButRings why other
+agrees : (table : CellTable) (bound : Bound) → Excludes table bound → (why : FlatFault) → IsFlatFault table bound why → why ≢ Memory → (other : FlatFault) → other ≢ Memory → IsFlatFault table bound other → AgreeButRings why other
 agrees table bound laws (NestingLimit count) r known other named q = inl (limit_agrees table bound laws (limit.Nesting count) (λ e. cc) r other q named)
 agrees table bound laws (CellLimit count) r known other named q = inl (limit_agrees table bound laws (limit.Cells count) (λ e. cc) r other q named)
 agrees table bound laws (WireLimit count) r known other named q = inl (limit_agrees table bound laws (limit.Wires count) (λ e. cc) r other q named)
@@ -133,11 +133,11 @@ agrees table bound laws (NoDriver pin) r known (NoDriver other) named q = inl (u
 agrees table bound laws Memory r known other named q = absurd (known refl)
 agrees table bound laws why r known Memory named q = absurd (named refl)
 
-pub refusals_agree : (table : CellTable) (bound : Bound) → Excludes table bound → (result : Result Flat FlatFault) → IfErr result (IsRefused table bound) →
-    IfErr result (λ why. why ≢ Memory → (other : FlatFault) → other ≢ Memory → IsRefused table bound other → AgreeButRings why other)
-refusals_agree table bound laws result = IfErr-weaker result (IsRefused table bound) (λ why. why ≢ Memory → (other : FlatFault) → other ≢ Memory → IsRefused table bound other → AgreeButRings why other) (agrees table bound laws)
+pub refusals_agree : (table : CellTable) (bound : Bound) → Excludes table bound → (result : Result Flat FlatFault) → IfErr result (IsFlatFault table bound) →
+    IfErr result (λ why. why ≢ Memory → (other : FlatFault) → other ≢ Memory → IsFlatFault table bound other → AgreeButRings why other)
+refusals_agree table bound laws result = IfErr-weaker result (IsFlatFault table bound) (λ why. why ≢ Memory → (other : FlatFault) → other ≢ Memory → IsFlatFault table bound other → AgreeButRings why other) (agrees table bound laws)
 
 pub unrefused : (table : CellTable) (bound : Bound) → Excludes table bound → (result : Result Flat FlatFault) → IfOk result (IsCircuitOf table bound) → OnOk result (IsSound table bound) →
-    IfOk result (λ flat. (other : FlatFault) → other ≢ Memory → IsRefused table bound other → ⊥)
+    IfOk result (λ flat. (other : FlatFault) → other ≢ Memory → IsFlatFault table bound other → ⊥)
 unrefused table bound laws (Ok flat) circuit sound = λ other named r. excluded table bound laws other r named flat sound circuit
 unrefused table bound laws (Err why) circuit sound = tt

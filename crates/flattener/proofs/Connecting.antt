@@ -16,34 +16,35 @@ use Rattle.rsfq_ids.specs.declared.circuit.Driver.{Driver}
 use Rattle.rsfq_ids.specs.declared.circuit.Reader.{Reader}
 use Rattle.rsfq_ids.specs.declared.circuit.Pin.{Pin}
 use Rattle.rsfq_ids.specs.WellFormed.{IsFlat, AreDistinct, drivers_of, readers_of}
-use Rattle.bound_source.specs.declared.bound.BoundInstance.{BoundInstance}
-use Rattle.bound_source.specs.declared.bound.BoundKind.{BoundKind}
-use Rattle.bound_source.specs.declared.bound.BoundKind.TheVariants.{Module, Cell}
-use Rattle.bound_source.specs.declared.bound.BoundLink.{BoundLink}
-use Rattle.bound_source.specs.declared.bound.BoundModule.{BoundModule}
-use Rattle.bound_source.specs.declared.bound.BoundPort.{BoundPort}
-use Rattle.bound_source.specs.declared.bound.BoundWire.{BoundWire}
-use Rattle.bound_source.specs.declared.bound.Bound.{Bound}
-use Rattle.bound_source.specs.Bits.{width_of, port_bit_names}
-use Rattle.bound_source.specs.WellFormed.{IsBound, IsModule, port_wire}
-use Rattle.design_size.specs.Hierarchy.{bits_of, wires_of, bit_count, cell_count}
-use Rattle.design_size.specs.Sizes.{IsWithinLimits}
+use Rattle.bind_forms.specs.declared.bound.BoundInstance.{BoundInstance}
+use Rattle.bind_forms.specs.declared.bound.BoundKind.{BoundKind}
+use Rattle.bind_forms.specs.declared.bound.BoundKind.TheVariants.{Module, Cell}
+use Rattle.bind_forms.specs.declared.bound.BoundLink.{BoundLink}
+use Rattle.bind_forms.specs.declared.bound.BoundModule.{BoundModule}
+use Rattle.bind_forms.specs.declared.bound.BoundPort.{BoundPort}
+use Rattle.bind_forms.specs.declared.bound.BoundWire.{BoundWire}
+use Rattle.bind_forms.specs.declared.bound.Bound.{Bound}
+use Rattle.bind_forms.specs.Bits.{width_of, port_bit_names}
+use Rattle.bind_forms.specs.WellFormed.{IsBound, IsModule, port_wire}
+use Rattle.flat_places.specs.Assigns.{different}
+use Rattle.flat_places.specs.Hierarchy.{bits_of, wires_of, bit_count, cell_count}
+use Rattle.flat_places.specs.Sizes.{IsWithinLimits}
 use Rattle.flat_places.specs.Circuit.{IsCircuitOf, port_bits}
 use Rattle.flat_places.specs.Drives.{StartsAt, ReadsAt}
 use Rattle.flat_places.specs.Names.{cell_name}
 use Rattle.flat_places.specs.Places.{CellAt, cells_of}
-use Rattle.flat_pieces.specs.Bits.{offsets_from, assign_links}
-use Rattle.flat_pieces.specs.Paths.{longer}
-use Rattle.flat_pieces.specs.Pieces.{Piece, empty, joined, only_links, cell_piece, module_piece, instance_piece, pieces_from, inside_piece}
-use Rattle.flat_pieces.specs.Whole.{IsNumberAt, whole_piece, IsShapeOf, inputs_in, outputs_in, starts_of, reads_of, AreStarts, AreReads, ReadsNet}
-use Rattle.flat_names.proofs.Lists.{all_got}
-use Rattle.flat_names.proofs.Modules.{wires_at}
-use Rattle.flat_names.specs.Design.{IsDesign}
+use Rattle.flat_places.specs.Bits.{offsets_from, assign_links}
+use Rattle.flat_places.specs.Paths.{longer}
+use Rattle.flat_places.specs.Pieces.{Piece, empty, joined, only_links, cell_piece, module_piece, instance_piece, pieces_from, inside_piece}
+use Rattle.flat_places.specs.Whole.{IsNumberAt, whole_piece, IsShapeOf, inputs_in, outputs_in, starts_of, reads_of, AreStarts, AreReads, ReadsNet}
+use Rattle.flat_names.specs.Measured.{IsMeasured}
 use Rattle.flattener.specs.declared.shape.Shape.{Shape}
 use Rattle.flattener.specs.Ends.{bare, input_place, input_places, output_place, output_places, bits_of_port}
 use Rattle.flattener.specs.Shape.{IsShaped}
 use Rattle.flattener.proofs.Listing.{bits_of_port_length, port_bits_same}
 use Rattle.flattener.proofs.Naming.{names_of_bits}
+use Rattle.flat_places.proofs.Joined.{all_got}
+use Rattle.flat_places.proofs.Modules.{wires_at}
 
 -- ---- cells are of rows
 
@@ -85,7 +86,7 @@ inside_rows table bound (suc levels) at path offsets base = go (instance_rows ta
   one from instance = instance_piece table bound (inside_piece table bound levels) path offsets from instance.name instance.links instance.kind
 
   go : ((path : Option (List ℕ)) (offsets : List ℕ) (base : ℕ) (name : List ℕ) (links : List BoundLink) (kind : BoundKind) → All (HasRow table) (instance_piece table bound (inside_piece table bound levels) path offsets base name links kind).cells) →
-      (o : Option BoundModule) → All (HasRow table) (unwrap_or (option_map (λ (owner : BoundModule). joined (only_links (flat_map (assign_links offsets) owner.assigns)) (pieces_from one base owner.instances)) o) empty).cells
+      (o : Option BoundModule) → All (HasRow table) (unwrap_or (option_map (λ (owner : BoundModule). joined (only_links (flat_map (assign_links offsets) (different owner.assigns))) (pieces_from one base owner.instances)) o) empty).cells
   go law None = nothing_has_rows table
   go law (Some owner) = pieces_rows table one (λ from instance. law path offsets from instance.name instance.links instance.kind) base owner.instances
 
@@ -166,15 +167,15 @@ few_cells_of table bound piece written named count within =
 pub rows_of : (table : CellTable) (bound : Bound) (piece : Piece) (cells : List FlatCell) → piece ≡ whole_piece table bound → cells ≡ piece.cells → All (λ (cell : FlatCell). cell.row < length table.rows) cells
 rows_of table bound piece cells written same = subst (All (HasRow table)) (sym (same ∙ ap (λ (p : Piece). p.cells) written)) (whole_rows table bound)
 
-pub shaped : (shape : Shape) (piece : Piece) → IsDesign shape.design → IsWithinLimits shape.design.bound.now → piece ≡ whole_piece shape.design.cells.now shape.design.bound.now → IsShapeOf shape.design.bound.now (bare shape.ports.now shape.cells.now) → length shape.cells.now ≤ 100000 →
-    length shape.ports.now ≤ 2000000 → shape.nets.now ≡ drivers_of shape.design.cells.now (bare shape.ports.now shape.cells.now) → shape.readers.now ≡ readers_of shape.design.cells.now (bare shape.ports.now shape.cells.now) → shape.starts.now ≡ input_places shape.ports.now ++ piece.outputs →
+pub shaped : (shape : Shape) (piece : Piece) → IsMeasured shape.source → IsWithinLimits shape.source.bound.now → piece ≡ whole_piece shape.source.cells.now shape.source.bound.now → IsShapeOf shape.source.bound.now (bare shape.ports.now shape.cells.now) → length shape.cells.now ≤ 100000 →
+    length shape.ports.now ≤ 2000000 → shape.nets.now ≡ drivers_of shape.source.cells.now (bare shape.ports.now shape.cells.now) → shape.readers.now ≡ readers_of shape.source.cells.now (bare shape.ports.now shape.cells.now) → shape.starts.now ≡ input_places shape.ports.now ++ piece.outputs →
     shape.reads.now ≡ piece.reads ++ output_places shape.ports.now → shape.links.now ≡ piece.links → shape.places ≡ piece.places → length shape.nets.now < 4294967296 →
-    (whole_piece shape.design.cells.now shape.design.bound.now).places ≡ bit_count shape.design.bound.now 64 shape.design.bound.now.top →
-    ((flat : Flat) → IsShapeOf shape.design.bound.now flat → AreStarts shape.design.cells.now shape.design.bound.now flat (starts_of flat.ports (whole_piece shape.design.cells.now shape.design.bound.now))) →
-    ((flat : Flat) → IsShapeOf shape.design.bound.now flat → AreReads shape.design.cells.now shape.design.bound.now flat (reads_of flat.ports (whole_piece shape.design.cells.now shape.design.bound.now))) → IsShaped shape
-shaped shape piece design within written is_shape few_cells few_ports nets readers starts_are reads_are links places_are few_nets places starts_law reads_law =
-    let table = shape.design.cells.now in
-    let bound = shape.design.bound.now in
+    (whole_piece shape.source.cells.now shape.source.bound.now).places ≡ bit_count shape.source.bound.now 64 shape.source.bound.now.top →
+    ((flat : Flat) → IsShapeOf shape.source.bound.now flat → AreStarts shape.source.cells.now shape.source.bound.now flat (starts_of flat.ports (whole_piece shape.source.cells.now shape.source.bound.now))) →
+    ((flat : Flat) → IsShapeOf shape.source.bound.now flat → AreReads shape.source.cells.now shape.source.bound.now flat (reads_of flat.ports (whole_piece shape.source.cells.now shape.source.bound.now))) → IsShaped shape
+shaped shape piece source within written is_shape few_cells few_ports nets readers starts_are reads_are links places_are few_nets places starts_law reads_law =
+    let table = shape.source.cells.now in
+    let bound = shape.source.bound.now in
     let whole = whole_piece table bound in
     let flat = bare shape.ports.now shape.cells.now in
     let starts : shape.starts.now ≡ starts_of shape.ports.now whole =
@@ -188,7 +189,7 @@ shaped shape piece design within written is_shape few_cells few_ports nets reade
     let starts_length = ap length starts in
     let reads_length = ap length reads in
     record {
-      design = design;
+      source = source;
       within = within;
       has_shape = is_shape;
       few_cells = few_cells;

@@ -5,25 +5,27 @@ use Rattle.std.specs.Option.{option_map}
 use Rattle.std.specs.List.{All, flat_map, zip}
 use Rattle.std.proofs.lemmas.List.Sums.{sum_by-cons}
 use Rattle.rsfq_ids.specs.declared.table.CellTable.{CellTable}
-use Rattle.alias_nets.specs.declared.link.Link.{Link}
-use Rattle.bound_source.specs.declared.bound.BoundPart.{BoundPart}
-use Rattle.bound_source.specs.declared.bound.BoundWire.{BoundWire}
-use Rattle.bound_source.specs.declared.bound.BoundPort.{BoundPort}
-use Rattle.bound_source.specs.declared.bound.BoundLink.{BoundLink}
-use Rattle.bound_source.specs.declared.bound.BoundAssign.{BoundAssign}
-use Rattle.bound_source.specs.declared.bound.BoundInstance.{BoundInstance}
-use Rattle.bound_source.specs.declared.bound.BoundModule.{BoundModule}
-use Rattle.bound_source.specs.declared.bound.Bound.{Bound}
-use Rattle.bound_source.specs.declared.bound.BoundKind.{BoundKind}
-use Rattle.bound_source.specs.declared.bound.BoundKind.TheVariants.{Module, Cell}
-use Rattle.bound_source.specs.Bits.{width_of}
-use Rattle.bound_source.specs.WellFormed.{IsPart, IsAssign, IsLink, IsInstance, IsModule, IsBound, port_wire, port_widths}
-use Rattle.design_size.specs.Hierarchy.{instances_of, wires_of, bits_of, bits_by, cells_by, bit_count, cell_count}
-use Rattle.flat_pieces.specs.Bits.{offsets_from, bit_numbers, ends_link, assign_links}
-use Rattle.flat_pieces.specs.Paths.{longer}
-use Rattle.flat_pieces.specs.Pieces.{Piece, empty, joined, only_places, only_links, module_piece, instance_piece, pieces_from, inside_piece}
-use Rattle.flat_names.proofs.Lists.{mapped_from, all_got}
+use Rattle.flat_aliases.specs.declared.link.Link.{Link}
+use Rattle.bind_forms.specs.declared.bound.BoundPart.{BoundPart}
+use Rattle.bind_forms.specs.declared.bound.BoundWire.{BoundWire}
+use Rattle.bind_forms.specs.declared.bound.BoundPort.{BoundPort}
+use Rattle.bind_forms.specs.declared.bound.BoundLink.{BoundLink}
+use Rattle.bind_forms.specs.declared.bound.BoundAssign.{BoundAssign}
+use Rattle.bind_forms.specs.declared.bound.BoundInstance.{BoundInstance}
+use Rattle.bind_forms.specs.declared.bound.BoundModule.{BoundModule}
+use Rattle.bind_forms.specs.declared.bound.Bound.{Bound}
+use Rattle.bind_forms.specs.declared.bound.BoundKind.{BoundKind}
+use Rattle.bind_forms.specs.declared.bound.BoundKind.TheVariants.{Module, Cell}
+use Rattle.bind_forms.specs.Bits.{width_of}
+use Rattle.bind_forms.specs.WellFormed.{IsPart, IsAssign, IsLink, IsInstance, IsModule, IsBound, port_wire, port_widths}
+use Rattle.flat_places.specs.Assigns.{different}
+use Rattle.flat_places.proofs.Different.{all_different}
+use Rattle.flat_places.specs.Hierarchy.{instances_of, wires_of, bits_of, bits_by, cells_by, bit_count, cell_count}
+use Rattle.flat_places.specs.Bits.{offsets_from, bit_numbers, ends_link, assign_links}
+use Rattle.flat_places.specs.Paths.{longer}
+use Rattle.flat_places.specs.Pieces.{Piece, empty, joined, only_places, only_links, module_piece, instance_piece, pieces_from, inside_piece}
 use Rattle.flattener.proofs.Lists.{all_tail}
+use Rattle.flat_places.proofs.Joined.{all_got, mapped_from}
 
 -- ---- sums that are 0
 
@@ -136,10 +138,10 @@ hollow_inside table bound b (suc levels) (suc (suc counted)) at low bits cells p
       let i = all_got (IsInstance table bound owner.wires) owner.instances k instance m.instances e in
       by_kind law instance owner.wires instance.kind i.widths i.kind i.links (inner_bits bound (suc counted) at owner is bits k instance e) (inner_cells bound (suc counted) at owner is cells k instance e) from
 
-  go : AreHollow table bound levels counted → (o : Option BoundModule) → slice_get bound.modules at ≡ o → unwrap_or (option_map (λ (owner : BoundModule). joined (only_links (flat_map (assign_links offsets) owner.assigns)) (pieces_from one base owner.instances)) o) empty ≡ empty
+  go : AreHollow table bound levels counted → (o : Option BoundModule) → slice_get bound.modules at ≡ o → unwrap_or (option_map (λ (owner : BoundModule). joined (only_links (flat_map (assign_links offsets) (different owner.assigns))) (pieces_from one base owner.instances)) o) empty ≡ empty
   go law None is = refl
   go law (Some owner) is =
       let m = all_got (IsModule table bound) bound.modules at owner b.modules is in
       let bare = own_wires bound (suc counted) at owner is bits in
-      ap (λ (links : List Link). joined (only_links links) (pieces_from one base owner.instances)) (no_assign_links offsets owner.assigns (subst (λ (ws : List BoundWire). All (IsAssign ws) owner.assigns) bare m.assigns))
+      ap (λ (links : List Link). joined (only_links links) (pieces_from one base owner.instances)) (no_assign_links offsets (different owner.assigns) (all_different (IsAssign []) owner.assigns (subst (λ (ws : List BoundWire). All (IsAssign ws) owner.assigns) bare m.assigns)))
       ∙ ap (joined (only_links [])) (hollow_pieces one owner.instances (each law owner is m) base)

@@ -10,22 +10,21 @@ use Rattle.rsfq_ids.specs.declared.table.CellRow.{CellRow}
 use Rattle.rsfq_ids.specs.declared.table.Kind.{Kind}
 use Rattle.rsfq_ids.specs.declared.table.Kind.TheVariants.{Jtl, Split, Merge, Gate}
 use Rattle.rsfq_ids.specs.WellFormed.{IsRow, FitsKind}
-use Rattle.bound_source.specs.declared.bound.BoundWire.{BoundWire}
-use Rattle.bound_source.specs.declared.bound.BoundLink.{BoundLink}
-use Rattle.bound_source.specs.declared.bound.BoundInstance.{BoundInstance}
-use Rattle.bound_source.specs.declared.bound.BoundModule.{BoundModule}
-use Rattle.bound_source.specs.declared.bound.Bound.{Bound}
-use Rattle.bound_source.specs.declared.bound.BoundKind.{BoundKind}
-use Rattle.bound_source.specs.declared.bound.BoundKind.TheVariants.{Module, Cell}
-use Rattle.bound_source.specs.WellFormed.{IsBound, IsModule, IsInstance, cell_ports, port_widths}
-use Rattle.design_size.specs.declared.size.Size.{Size}
-use Rattle.design_size.specs.Hierarchy.{bits_of, bit_count, cell_count}
-use Rattle.design_size.specs.Rounds.{empty_size}
-use Rattle.design_size.specs.Sizes.{AreSizes}
-use Rattle.flat_pieces.specs.Bits.{offsets_from}
-use Rattle.flat_pieces.specs.Paths.{longer}
-use Rattle.flat_pieces.specs.Pieces.{Piece, empty, joined, only_places, only_links, reading_of, cell_piece, links_of_link, module_piece, instance_piece, inside_piece, instance_at}
-use Rattle.flat_names.proofs.Lists.{mapped_from, all_got}
+use Rattle.bind_forms.specs.declared.bound.BoundWire.{BoundWire}
+use Rattle.bind_forms.specs.declared.bound.BoundLink.{BoundLink}
+use Rattle.bind_forms.specs.declared.bound.BoundInstance.{BoundInstance}
+use Rattle.bind_forms.specs.declared.bound.BoundModule.{BoundModule}
+use Rattle.bind_forms.specs.declared.bound.Bound.{Bound}
+use Rattle.bind_forms.specs.declared.bound.BoundKind.{BoundKind}
+use Rattle.bind_forms.specs.declared.bound.BoundKind.TheVariants.{Module, Cell}
+use Rattle.bind_forms.specs.WellFormed.{IsBound, IsModule, IsInstance, cell_ports, port_widths}
+use Rattle.flat_places.specs.declared.size.Size.{Size}
+use Rattle.flat_places.specs.Hierarchy.{bits_of, bit_count, cell_count}
+use Rattle.flat_places.specs.Rounds.{empty_size}
+use Rattle.flat_places.specs.Sizes.{AreSizes}
+use Rattle.flat_places.specs.Bits.{offsets_from}
+use Rattle.flat_places.specs.Paths.{longer}
+use Rattle.flat_places.specs.Pieces.{Piece, empty, joined, only_places, only_links, reading_of, cell_piece, links_of_link, module_piece, instance_piece, inside_piece, instance_at}
 use Rattle.flat_names.proofs.Modules.{module_there}
 use Rattle.flattener.specs.Wiring.{AreNumbered, IsNumberedLink}
 use Rattle.flattener.specs.Walk.{IsInstanceOn, AreOffsets, HasRoom}
@@ -33,6 +32,7 @@ use Rattle.flattener.specs.Solid.{is_solid}
 use Rattle.flattener.proofs.Numbering.{parts_numbered, link_numbered}
 use Rattle.flattener.proofs.Hollow.{hollow_kind, hollow_inside}
 use Rattle.flattener.proofs.Steps.{module_step}
+use Rattle.flat_places.proofs.Joined.{all_got, mapped_from}
 
 -- ---- cells
 

@@ -1,8 +1,8 @@
 -- Pieces behind one another.
 use Rattle.std.proofs.Common.{◌≡◌, ◌∙◌, ℕ, List, Option, refl, ap, arith, append_assoc}
 use Rattle.rsfq_ids.specs.declared.circuit.FlatCell.{FlatCell}
-use Rattle.alias_nets.specs.declared.link.Link.{Link}
-use Rattle.flat_pieces.specs.Pieces.{Piece, empty, joined}
+use Rattle.flat_aliases.specs.declared.link.Link.{Link}
+use Rattle.flat_places.specs.Pieces.{Piece, empty, joined}
 
 -- pieces of the same parts are the same
 pub same_piece : (a b : Piece) → a.places ≡ b.places → a.links ≡ b.links → a.cells ≡ b.cells → a.reads ≡ b.reads → a.outputs ≡ b.outputs → a ≡ b

@@ -5,6 +5,7 @@ pub mod Hollow
 pub mod Pathless
 pub mod Picking
 pub mod Steps
+pub mod Fresh
 pub mod Instances
 pub mod Listing
 pub mod Members
@@ -14,4 +15,3 @@ pub mod Resolving
 pub mod Connecting
 pub mod Excluding
 pub mod Agreeing
-pub mod Sampled

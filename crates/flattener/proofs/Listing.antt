@@ -14,8 +14,8 @@ use Rattle.rsfq_ids.specs.declared.circuit.Driver.TheVariants.{Out}
 use Rattle.rsfq_ids.specs.declared.circuit.Driver.TheVariants as drivers
 use Rattle.rsfq_ids.specs.declared.circuit.Reader.TheVariants.{Pin}
 use Rattle.rsfq_ids.specs.WellFormed.{IsRow, FitsKind}
-use Rattle.bound_source.specs.declared.bound.BoundPort.{BoundPort}
-use Rattle.bound_source.specs.Bits.{width_of, bit_name}
+use Rattle.bind_forms.specs.declared.bound.BoundPort.{BoundPort}
+use Rattle.bind_forms.specs.Bits.{width_of, bit_name}
 use Rattle.flat_places.specs.Circuit.{port_bits}
 use Rattle.flattener.specs.Ends.{port_bit, bits_of_port, input_driver, cell_drivers, cell_readers}
 use Rattle.flattener.proofs.Lists.{flat_step, map_twice}

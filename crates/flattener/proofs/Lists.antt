@@ -54,20 +54,6 @@ zip_end {X} {Y} f xs ys i done whole high e =
 
 -- ---- items of lists
 
-pub got_left : {X : Type 0} (xs ys : List X) (k : ℕ) (x : X) → slice_get xs k ≡ Some x → slice_get (xs ++ ys) k ≡ Some x
-got_left [] ys k x e = absurd cc
-got_left (z ∷ xs) ys zero x e = e
-got_left (z ∷ xs) ys (suc k) x e = got_left xs ys k x e
-
-pub map_got : {X Y : Type 0} (f : X → Y) (xs : List X) (k : ℕ) (y : Y) → slice_get (map f xs) k ≡ Some y → (x : X) × (slice_get xs k ≡ Some x) × (f x ≡ y)
-map_got {X} {Y} f xs k y e = go (slice_get xs k) refl (sym (slice_get-map f xs k) ∙ e) where
-  go : (o : Option X) → slice_get xs k ≡ o → option_map f o ≡ Some y → (x : X) × (slice_get xs k ≡ Some x) × (f x ≡ y)
-  go None is g = absurd cc
-  go (Some x) is g = (x, is, same_Some (f x) y g)
-
-pub got_map : {X Y : Type 0} (f : X → Y) (xs : List X) (k : ℕ) (x : X) → slice_get xs k ≡ Some x → slice_get (map f xs) k ≡ Some (f x)
-got_map f xs k x e = slice_get-map f xs k ∙ ap (option_map f) e
-
 pub all_tail : {X : Type 0} (P : X → Type 0) (x : X) (xs : List X) → All P (x ∷ xs) → All P xs
 all_tail P x xs h = λ k d low. h (suc k) d (omega arith)
 

@@ -16,9 +16,8 @@ use Rattle.rsfq_ids.specs.declared.circuit.Driver.TheVariants as driver
 use Rattle.rsfq_ids.specs.declared.circuit.Reader.{Reader}
 use Rattle.rsfq_ids.specs.declared.circuit.Reader.TheVariants as reader
 use Rattle.rsfq_ids.specs.WellFormed.{IsTable, IsRow, FitsKind, output_pins, reading_pins, drivers_of, readers_of}
-use Rattle.flat_names.proofs.Lists.{all_got}
 use Rattle.flattener.specs.Ends.{bare, HasDriver, HasReader, input_driver, output_reader, cell_drivers, cell_readers}
-use Rattle.flattener.proofs.Lists.{map_got}
+use Rattle.flat_places.proofs.Joined.{all_got, map_got}
 
 -- ---- lists
 

@@ -12,23 +12,24 @@ use Rattle.rsfq_ids.specs.declared.circuit.Driver.{Driver}
 use Rattle.rsfq_ids.specs.declared.circuit.Driver.TheVariants as driver
 use Rattle.rsfq_ids.specs.declared.circuit.Reader.{Reader}
 use Rattle.rsfq_ids.specs.declared.circuit.Reader.TheVariants as reader
-use Rattle.bound_source.specs.declared.bound.BoundKind.{BoundKind}
-use Rattle.bound_source.specs.declared.bound.BoundKind.TheVariants.{Module, Cell}
-use Rattle.bound_source.specs.declared.bound.BoundInstance.{BoundInstance}
-use Rattle.bound_source.specs.declared.bound.BoundModule.{BoundModule}
-use Rattle.bound_source.specs.declared.bound.BoundPort.{BoundPort}
-use Rattle.bound_source.specs.declared.bound.Bound.{Bound}
-use Rattle.bound_source.specs.Bits.{bit_names, port_bit_names}
-use Rattle.design_size.specs.Hierarchy.{instances_of, module_of}
+use Rattle.bind_forms.specs.declared.bound.BoundKind.{BoundKind}
+use Rattle.bind_forms.specs.declared.bound.BoundKind.TheVariants.{Module, Cell}
+use Rattle.bind_forms.specs.declared.bound.BoundInstance.{BoundInstance}
+use Rattle.bind_forms.specs.declared.bound.BoundModule.{BoundModule}
+use Rattle.bind_forms.specs.declared.bound.BoundPort.{BoundPort}
+use Rattle.bind_forms.specs.declared.bound.Bound.{Bound}
+use Rattle.bind_forms.specs.Bits.{bit_names, port_bit_names}
+use Rattle.flat_places.specs.Hierarchy.{instances_of, module_of}
 use Rattle.flat_places.specs.Circuit.{port_bits}
 use Rattle.flat_places.specs.Places.{Place, CellAt, deeper_cell, cells_by, cells_in, cells_of, places_of}
 use Rattle.flat_places.specs.Names.{names_along, dotted, place_name, cell_name, top_bit_names, driver_name, reader_name}
-use Rattle.flat_pieces.specs.Paths.{longer}
-use Rattle.flat_pieces.specs.Whole.{IsShapeOf}
+use Rattle.flat_places.specs.Paths.{longer}
+use Rattle.flat_places.specs.Whole.{IsShapeOf}
 use Rattle.flattener.specs.Ends.{bare, HasPin, HasDriver, HasReader, reading_names, printed_port, printed_pin, printed_driver, printed_reader}
 use Rattle.flattener.specs.Shape.{numbered_name}
-use Rattle.flattener.proofs.Lists.{map_got}
 use Rattle.flattener.proofs.Members.{numbered_got}
+use Rattle.flat_places.proofs.Joined.{map_got}
+use Rattle.flat_places.proofs.Celled.{cells_more}
 
 -- ---- ports
 
@@ -55,10 +56,6 @@ port_printed bound ports port is =
 cells_none : (bound : Bound) (at : ℕ) → cells_in bound zero at ≡ []
 unfolding cells_in
 cells_none bound at = refl
-
-cells_more : (bound : Bound) (levels at : ℕ) → cells_in bound (suc levels) at ≡ flat_map (λ ((instance, declared) : ℕ × BoundInstance). cells_by (cells_in bound levels) instance declared.kind) (enumerate_from 0 (instances_of bound at))
-unfolding cells_in
-cells_more bound levels at = refl
 
 -- the path of a cell begins with an instance that there is
 pub record BeginsAt (bound : Bound) (at : ℕ) (path : List ℕ) : Type 0 where

@@ -7,20 +7,20 @@ use Rattle.std.proofs.lemmas.Option.{same_Some, slice_get_within, get_or_from_sl
 use Rattle.std.proofs.lemmas.List.FromFn.{length-range_with_len}
 use Rattle.std.proofs.lemmas.List.Sums.{sum_by-cons}
 use Rattle.rsfq_ids.specs.declared.table.CellTable.{CellTable}
-use Rattle.bound_source.specs.declared.bound.BoundPart.{BoundPart}
-use Rattle.bound_source.specs.declared.bound.BoundWire.{BoundWire}
-use Rattle.bound_source.specs.declared.bound.BoundPort.{BoundPort}
-use Rattle.bound_source.specs.declared.bound.BoundLink.{BoundLink}
-use Rattle.bound_source.specs.declared.bound.BoundModule.{BoundModule}
-use Rattle.bound_source.specs.declared.bound.Bound.{Bound}
-use Rattle.bound_source.specs.declared.bound.BoundKind.TheVariants.{Module}
-use Rattle.bound_source.specs.Bits.{width_of}
-use Rattle.bound_source.specs.WellFormed.{IsPart, IsLink, IsModule, parts_width, port_wire, port_widths}
-use Rattle.design_size.specs.Hierarchy.{bits_of}
-use Rattle.flat_pieces.specs.Bits.{offsets_from, part_numbers, bit_numbers}
+use Rattle.bind_forms.specs.declared.bound.BoundPart.{BoundPart}
+use Rattle.bind_forms.specs.declared.bound.BoundWire.{BoundWire}
+use Rattle.bind_forms.specs.declared.bound.BoundPort.{BoundPort}
+use Rattle.bind_forms.specs.declared.bound.BoundLink.{BoundLink}
+use Rattle.bind_forms.specs.declared.bound.BoundModule.{BoundModule}
+use Rattle.bind_forms.specs.declared.bound.Bound.{Bound}
+use Rattle.bind_forms.specs.declared.bound.BoundKind.TheVariants.{Module}
+use Rattle.bind_forms.specs.Bits.{width_of}
+use Rattle.bind_forms.specs.WellFormed.{IsPart, IsLink, IsModule, parts_width, port_wire, port_widths}
+use Rattle.flat_places.specs.Hierarchy.{bits_of}
+use Rattle.flat_places.specs.Bits.{offsets_from, part_numbers, bit_numbers}
 use Rattle.flattener.specs.Wiring.{IsNumbered, AreNumbered, IsNumberedLink}
 use Rattle.flattener.specs.Walk.{AreOffsets}
-use Rattle.flattener.proofs.Lists.{got_left, map_got, got_map}
+use Rattle.flat_places.proofs.Joined.{got_left, map_got, got_map}
 
 pub offsets_length : (base : ℕ) (wires : List BoundWire) → length (offsets_from base wires) ≡ length wires
 offsets_length base [] = refl

@@ -4,18 +4,19 @@ use Rattle.std.specs.Prelude.{slice_get, unwrap_or}
 use Rattle.std.specs.Option.{option_map}
 use Rattle.std.specs.List.{flat_map}
 use Rattle.rsfq_ids.specs.declared.table.CellTable.{CellTable}
-use Rattle.bound_source.specs.declared.bound.BoundLink.{BoundLink}
-use Rattle.bound_source.specs.declared.bound.BoundInstance.{BoundInstance}
-use Rattle.bound_source.specs.declared.bound.BoundModule.{BoundModule}
-use Rattle.bound_source.specs.declared.bound.Bound.{Bound}
-use Rattle.bound_source.specs.declared.bound.BoundKind.{BoundKind}
-use Rattle.bound_source.specs.declared.bound.BoundKind.TheVariants.{Module, Cell}
-use Rattle.design_size.specs.declared.size.Size.{Size}
-use Rattle.design_size.specs.Hierarchy.{bits_of, cells_by, cell_count}
-use Rattle.design_size.specs.Sizes.{AreSizes}
-use Rattle.flat_pieces.specs.Bits.{offsets_from, assign_links}
-use Rattle.flat_pieces.specs.Paths.{longer}
-use Rattle.flat_pieces.specs.Pieces.{Piece, empty, joined, only_places, only_links, links_of_link, module_piece, instance_piece, pieces_from, inside_piece}
+use Rattle.bind_forms.specs.declared.bound.BoundLink.{BoundLink}
+use Rattle.bind_forms.specs.declared.bound.BoundInstance.{BoundInstance}
+use Rattle.bind_forms.specs.declared.bound.BoundModule.{BoundModule}
+use Rattle.bind_forms.specs.declared.bound.Bound.{Bound}
+use Rattle.bind_forms.specs.declared.bound.BoundKind.{BoundKind}
+use Rattle.bind_forms.specs.declared.bound.BoundKind.TheVariants.{Module, Cell}
+use Rattle.flat_places.specs.declared.size.Size.{Size}
+use Rattle.flat_places.specs.Assigns.{different}
+use Rattle.flat_places.specs.Hierarchy.{bits_of, cells_by, cell_count}
+use Rattle.flat_places.specs.Sizes.{AreSizes}
+use Rattle.flat_places.specs.Bits.{offsets_from, assign_links}
+use Rattle.flat_places.specs.Paths.{longer}
+use Rattle.flat_places.specs.Pieces.{Piece, empty, joined, only_places, only_links, links_of_link, module_piece, instance_piece, pieces_from, inside_piece}
 use Rattle.flattener.proofs.Hollow.{inner_cells}
 
 -- what is inside modules that count no cells is the same behind each path
@@ -53,11 +54,11 @@ same_inside table bound (suc levels) (suc counted) at low none one other offsets
   behind path from instance = instance_piece table bound (inside_piece table bound levels) path offsets from instance.name instance.links instance.kind
 
   go : IsPathless (cell_count bound counted) (inside_piece table bound levels) → (o : Option BoundModule) → slice_get bound.modules at ≡ o →
-      unwrap_or (option_map (λ (owner : BoundModule). joined (only_links (flat_map (assign_links offsets) owner.assigns)) (pieces_from (behind one) base owner.instances)) o) empty
-      ≡ unwrap_or (option_map (λ (owner : BoundModule). joined (only_links (flat_map (assign_links offsets) owner.assigns)) (pieces_from (behind other) base owner.instances)) o) empty
+      unwrap_or (option_map (λ (owner : BoundModule). joined (only_links (flat_map (assign_links offsets) (different owner.assigns))) (pieces_from (behind one) base owner.instances)) o) empty
+      ≡ unwrap_or (option_map (λ (owner : BoundModule). joined (only_links (flat_map (assign_links offsets) (different owner.assigns))) (pieces_from (behind other) base owner.instances)) o) empty
   go law None is = refl
   go law (Some owner) is =
-      ap (joined (only_links (flat_map (assign_links offsets) owner.assigns)))
+      ap (joined (only_links (flat_map (assign_links offsets) (different owner.assigns))))
       (same_pieces (behind one) (behind other) owner.instances (λ k instance e from. same_kind table bound (cell_count bound counted) (inside_piece table bound levels) law instance.name instance.links instance.kind (inner_cells bound counted at owner is none k instance e) one other offsets from) base)
 
 -- a name that is the path wherever the module has cells is as good as the path

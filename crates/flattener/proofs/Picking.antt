@@ -3,14 +3,14 @@ use Rattle.std.proofs.Common.{◌≡◌, ◌∙◌, ◌+◌, ◌<◌, ℕ, zero,
 use Rattle.std.specs.Prelude.{slice_get, option_to_list}
 use Rattle.std.specs.List.{All, flat_map, enumerate_from}
 use Rattle.std.proofs.lemmas.Option.{same_Some}
-use Rattle.bound_source.specs.declared.bound.BoundInstance.{BoundInstance}
-use Rattle.bound_source.specs.declared.bound.BoundModule.{BoundModule}
-use Rattle.design_size.specs.declared.size.Size.{Size}
-use Rattle.flat_pieces.specs.Pieces.{Piece, empty, joined, pieces_from}
+use Rattle.bind_forms.specs.declared.bound.BoundInstance.{BoundInstance}
+use Rattle.bind_forms.specs.declared.bound.BoundModule.{BoundModule}
+use Rattle.flat_places.specs.declared.size.Size.{Size}
+use Rattle.flat_places.specs.Pieces.{Piece, empty, joined, pieces_from}
 use Rattle.flat_names.proofs.Lists.{read_at}
 use Rattle.flattener.specs.Solid.{is_solid, solid_place, solid_places}
-use Rattle.flattener.proofs.Lists.{got_map}
 use Rattle.flattener.proofs.Joining.{empty_joined}
+use Rattle.flat_places.proofs.Joined.{got_map}
 
 -- the instances at these places
 abbrev pub picked : List BoundInstance → List ℕ → List BoundInstance

@@ -4,13 +4,14 @@ use Rattle.std.specs.Prelude.{slice_get, unwrap_or, option_to_list}
 use Rattle.std.specs.Option.{option_map}
 use Rattle.std.specs.List.{flat_map}
 use Rattle.rsfq_ids.specs.declared.table.CellTable.{CellTable}
-use Rattle.alias_nets.specs.declared.link.Link.{Link}
-use Rattle.bound_source.specs.declared.bound.BoundInstance.{BoundInstance}
-use Rattle.bound_source.specs.declared.bound.BoundModule.{BoundModule}
-use Rattle.bound_source.specs.declared.bound.Bound.{Bound}
-use Rattle.design_size.specs.declared.size.Size.{Size}
-use Rattle.flat_pieces.specs.Bits.{assign_links}
-use Rattle.flat_pieces.specs.Pieces.{Piece, empty, joined, only_places, only_links, instance_piece, pieces_from, inside_piece, instance_at}
+use Rattle.flat_aliases.specs.declared.link.Link.{Link}
+use Rattle.bind_forms.specs.declared.bound.BoundInstance.{BoundInstance}
+use Rattle.bind_forms.specs.declared.bound.BoundModule.{BoundModule}
+use Rattle.bind_forms.specs.declared.bound.Bound.{Bound}
+use Rattle.flat_places.specs.declared.size.Size.{Size}
+use Rattle.flat_places.specs.Assigns.{different}
+use Rattle.flat_places.specs.Bits.{assign_links}
+use Rattle.flat_places.specs.Pieces.{Piece, empty, joined, only_places, only_links, instance_piece, pieces_from, inside_piece, instance_at}
 use Rattle.flattener.specs.Walk.{HasRoom}
 use Rattle.flattener.specs.Solid.{is_solid, solid_places}
 use Rattle.flattener.proofs.Joining.{joined_assoc}
@@ -18,15 +19,15 @@ use Rattle.flattener.proofs.Picking.{picked, all_solid}
 
 -- what is inside a module: the links of its assigns, and then its instances
 pub inside_more : (table : CellTable) (bound : Bound) (levels at : ℕ) (path : Option (List ℕ)) (offsets : List ℕ) (base : ℕ) (owner : BoundModule) → 1 ≤ levels → slice_get bound.modules at ≡ Some owner →
-    inside_piece table bound levels at path offsets base ≡ joined (only_links (flat_map (assign_links offsets) owner.assigns)) (pieces_from (instance_at table bound levels path offsets) base owner.instances)
+    inside_piece table bound levels at path offsets base ≡ joined (only_links (flat_map (assign_links offsets) (different owner.assigns))) (pieces_from (instance_at table bound levels path offsets) base owner.instances)
 unfolding inside_piece
 inside_more table bound zero at path offsets base owner low there = absurd (omega arith)
 inside_more table bound (suc levels) at path offsets base owner low there =
     let same : levels ≡ suc levels - 1 = omega arith in
     ap (λ (o : Option BoundModule). unwrap_or (option_map (λ (owner : BoundModule).
-    joined (only_links (flat_map (assign_links offsets) owner.assigns))
+    joined (only_links (flat_map (assign_links offsets) (different owner.assigns)))
     (pieces_from (λ from instance. instance_piece table bound (inside_piece table bound levels) path offsets from instance.name instance.links instance.kind) base owner.instances)) o) empty) there
-    ∙ ap (λ (n : ℕ). joined (only_links (flat_map (assign_links offsets) owner.assigns))
+    ∙ ap (λ (n : ℕ). joined (only_links (flat_map (assign_links offsets) (different owner.assigns)))
     (pieces_from (λ from instance. instance_piece table bound (inside_piece table bound n) path offsets from instance.name instance.links instance.kind) base owner.instances)) same
 
 -- ---- instances one after another
@@ -40,12 +41,12 @@ next_piece one base xs places i x low there =
 
 -- the links of assigns were added, and all instances that hold something are left
 pub started : (table : CellTable) (bound : Bound) (levels at : ℕ) (path : Option (List ℕ)) (offsets : List ℕ) (owner : BoundModule) (sizes : List Size) (before assigned : Piece) (items : List BoundInstance) (places : List ℕ) → 1 ≤ levels → slice_get bound.modules at ≡ Some owner →
-    assigned ≡ joined before (only_links (flat_map (assign_links offsets) owner.assigns)) → items ≡ owner.instances → places ≡ solid_places sizes owner.instances →
+    assigned ≡ joined before (only_links (flat_map (assign_links offsets) (different owner.assigns))) → items ≡ owner.instances → places ≡ solid_places sizes owner.instances →
     ((k : ℕ) (x : BoundInstance) → slice_get owner.instances k ≡ Some x → is_solid sizes x.kind ≡ false → (base : ℕ) → instance_at table bound levels path offsets base x ≡ empty) →
     joined assigned (pieces_from (instance_at table bound levels path offsets) assigned.places (picked items (drop 0 places))) ≡ joined before (inside_piece table bound levels at path offsets before.places)
 started table bound levels at path offsets owner sizes before assigned items places low there e is listed hollow =
     let one = instance_at table bound levels path offsets in
-    let links = flat_map (assign_links offsets) owner.assigns in
+    let links = flat_map (assign_links offsets) (different owner.assigns) in
     let p = ap (λ (v : Piece). v.places) e in
     let same : assigned.places ≡ before.places = omega (arith, p) in
     ap (λ (xs : List BoundInstance). joined assigned (pieces_from one assigned.places (picked xs places))) is

@@ -1,22 +1,22 @@
--- A whole design is written out.
+-- A whole source is written out.
 use Rattle.std.proofs.Common.{◌≡◌, ◌∙◌, ◌+◌, ℕ, List, map, length, Some, None, sym, ap, arith}
 use Rattle.std.specs.Prelude.{slice_get}
 use Rattle.std.proofs.lemmas.List.{length-map}
 use Rattle.rsfq_ids.specs.declared.table.CellTable.{CellTable}
 use Rattle.rsfq_ids.specs.declared.circuit.FlatCell.{FlatCell}
-use Rattle.bound_source.specs.declared.bound.BoundWire.{BoundWire}
-use Rattle.bound_source.specs.declared.bound.BoundModule.{BoundModule}
-use Rattle.bound_source.specs.declared.bound.Bound.{Bound}
-use Rattle.design_size.specs.Hierarchy.{wires_of, bits_of, cell_count, bit_count}
-use Rattle.design_size.specs.Sizes.{IsWithinLimits}
+use Rattle.bind_forms.specs.declared.bound.BoundWire.{BoundWire}
+use Rattle.bind_forms.specs.declared.bound.BoundModule.{BoundModule}
+use Rattle.bind_forms.specs.declared.bound.Bound.{Bound}
+use Rattle.flat_places.specs.Hierarchy.{wires_of, bits_of, cell_count, bit_count}
+use Rattle.flat_places.specs.Sizes.{IsWithinLimits}
 use Rattle.flat_places.specs.Places.{CellAt, cells_in, cells_of}
 use Rattle.flat_places.specs.Names.{cell_name}
-use Rattle.flat_pieces.specs.Bits.{offsets_from}
-use Rattle.flat_pieces.specs.Pieces.{Piece, empty, joined, only_places, inside_piece}
-use Rattle.flat_pieces.specs.Whole.{whole_piece}
-use Rattle.flat_names.proofs.Modules.{wires_at}
+use Rattle.flat_places.specs.Bits.{offsets_from}
+use Rattle.flat_places.specs.Pieces.{Piece, empty, joined, only_places, inside_piece}
+use Rattle.flat_places.specs.Whole.{whole_piece}
 use Rattle.flattener.specs.Walk.{HasRoom, AreOffsets}
 use Rattle.flattener.proofs.Joining.{empty_joined}
+use Rattle.flat_places.proofs.Modules.{wires_at}
 
 -- the top's own wires were written, and what is inside it goes behind them
 pub whole_goes : (table : CellTable) (bound : Bound) (top : BoundModule) (start placed : Piece) (wires : List BoundWire) (offsets : List ℕ) → slice_get bound.modules bound.top ≡ Some top → wires ≡ top.wires → start ≡ empty → placed ≡ joined start (only_places (bits_of wires)) →

@@ -12,9 +12,9 @@ use Rattle.rsfq_ids.specs.declared.circuit.Flat.{Flat}
 use Rattle.rsfq_ids.specs.declared.circuit.FlatCell.{FlatCell}
 use Rattle.rsfq_ids.specs.declared.circuit.PortBit.{PortBit}
 use Rattle.rsfq_ids.specs.WellFormed.{reading_pins, output_pins}
-use Rattle.bound_source.specs.declared.bound.BoundPort.{BoundPort}
-use Rattle.bound_source.specs.Bits.{width_of, bit_name}
-use Rattle.flat_pieces.specs.Paths.{longer}
+use Rattle.bind_forms.specs.declared.bound.BoundPort.{BoundPort}
+use Rattle.bind_forms.specs.Bits.{width_of, bit_name}
+use Rattle.flat_places.specs.Paths.{longer}
 
 -- a circuit's ports and cells alone
 abbrev pub bare : List PortBit → List FlatCell → Flat

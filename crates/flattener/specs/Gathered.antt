@@ -1,11 +1,11 @@
--- Both ends of the nets of a design that is written out.
+-- Both ends of the nets of a source that is written out.
 use Rattle.std.specs.Prelude.{◌≡◌, ◌≤◌, List, ◌++◌, map, length}
 use Rattle.std.specs.List.{All}
 use Rattle.rsfq_ids.specs.declared.table.CellTable.{CellTable}
 use Rattle.rsfq_ids.specs.declared.circuit.Pin.{Pin}
 use Rattle.rsfq_ids.specs.WellFormed.{drivers_of, readers_of}
-use Rattle.bound_source.specs.declared.bound.Bound.{Bound}
-use Rattle.flat_pieces.specs.Whole.{IsShapeOf, ReadsNet}
+use Rattle.bind_forms.specs.declared.bound.Bound.{Bound}
+use Rattle.flat_places.specs.Whole.{IsShapeOf, ReadsNet}
 use Rattle.flattener.specs.declared.flattening.Ends.{Ends}
 use Rattle.flattener.specs.declared.wiring.Wiring.{Wiring}
 use Rattle.flattener.specs.Ends.{bare, input_places, output_places}

@@ -7,4 +7,3 @@ pub mod Walk
 pub mod Ends
 pub mod Shape
 pub mod Gathered
-pub mod Sample

@@ -1,6 +1,6 @@
 -- The refusal of a limit that is passed.
-use Rattle.design_size.specs.declared.limits.SizeFault.{SizeFault}
-use Rattle.design_size.specs.declared.limits.SizeFault.TheVariants as limit
+use Rattle.flat_places.specs.declared.limits.SizeFault.{SizeFault}
+use Rattle.flat_places.specs.declared.limits.SizeFault.TheVariants as limit
 use Rattle.flattener.specs.declared.fault.FlatFault.{FlatFault}
 use Rattle.flattener.specs.declared.fault.FlatFault.TheVariants.{NestingLimit, CellLimit, WireLimit, Memory}
 

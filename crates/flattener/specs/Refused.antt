@@ -6,9 +6,9 @@ use Rattle.rsfq_ids.specs.declared.circuit.Flat.{Flat}
 use Rattle.rsfq_ids.specs.declared.circuit.Driver.{Driver}
 use Rattle.rsfq_ids.specs.declared.circuit.Reader.{Reader}
 use Rattle.rsfq_ids.specs.WellFormed.{drivers_of, readers_of}
-use Rattle.bound_source.specs.declared.bound.Bound.{Bound}
-use Rattle.design_size.specs.declared.limits.SizeFault.TheVariants as limit
-use Rattle.design_size.specs.Sizes.{IsWithinLimits, PassesLimit}
+use Rattle.bind_forms.specs.declared.bound.Bound.{Bound}
+use Rattle.flat_places.specs.declared.limits.SizeFault.TheVariants as limit
+use Rattle.flat_places.specs.Sizes.{IsWithinLimits, PassesLimit}
 use Rattle.flat_places.specs.Places.{Place, cells_of}
 use Rattle.flat_places.specs.Circuit.{port_bits}
 use Rattle.flat_places.specs.Names.{place_name, cell_name, driver_name, reader_name}
@@ -61,14 +61,14 @@ pub record NamesUndriven (table : CellTable) (bound : Bound) (pin : List ℕ) : 
   pub name : pin ≡ reader_name table bound reader
 
 -- Why there is no circuit: a limit that is passed; else the first place with two drivers; else a ring; else the first reader that nothing drives. Want of memory is free.
-abbrev pub IsRefused : CellTable → Bound → FlatFault → Type 0
-IsRefused table bound (NestingLimit count) = PassesLimit bound (limit.Nesting count)
-IsRefused table bound (CellLimit count) = PassesLimit bound (limit.Cells count)
-IsRefused table bound (WireLimit count) = PassesLimit bound (limit.Wires count)
-IsRefused table bound (TwoDrivers wire first second) = IsWithinLimits bound × NamesTwo table bound wire first second
-IsRefused table bound (AliasLoop wires) = IsWithinLimits bound × ((place : Place) → HasOneDriver table bound place) × NamesRing bound wires
-IsRefused table bound (NoDriver pin) = IsSound table bound × NamesUndriven table bound pin
-IsRefused table bound Memory = Unit {0}
+abbrev pub IsFlatFault : CellTable → Bound → FlatFault → Type 0
+IsFlatFault table bound (NestingLimit count) = PassesLimit bound (limit.Nesting count)
+IsFlatFault table bound (CellLimit count) = PassesLimit bound (limit.Cells count)
+IsFlatFault table bound (WireLimit count) = PassesLimit bound (limit.Wires count)
+IsFlatFault table bound (TwoDrivers wire first second) = IsWithinLimits bound × NamesTwo table bound wire first second
+IsFlatFault table bound (AliasLoop wires) = IsWithinLimits bound × ((place : Place) → HasOneDriver table bound place) × NamesRing bound wires
+IsFlatFault table bound (NoDriver pin) = IsSound table bound × NamesUndriven table bound pin
+IsFlatFault table bound Memory = Unit {0}
 
 -- it names a ring
 abbrev pub IsAliasLoop : FlatFault → Type 0

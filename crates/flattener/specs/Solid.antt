@@ -1,11 +1,11 @@
 -- The instances that hold a cell or a wire bit.
 use Rattle.std.specs.Prelude.{ℕ, Bool, true, cond, nat_lt, ◌||◌, List, [], ◌∷◌, slice_index_or}
 use Rattle.std.specs.List.{flat_map, enumerate_from}
-use Rattle.bound_source.specs.declared.bound.BoundKind.{BoundKind}
-use Rattle.bound_source.specs.declared.bound.BoundKind.TheVariants.{Module, Cell}
-use Rattle.bound_source.specs.declared.bound.BoundInstance.{BoundInstance}
-use Rattle.design_size.specs.declared.size.Size.{Size}
-use Rattle.design_size.specs.Rounds.{empty_size}
+use Rattle.bind_forms.specs.declared.bound.BoundKind.{BoundKind}
+use Rattle.bind_forms.specs.declared.bound.BoundKind.TheVariants.{Module, Cell}
+use Rattle.bind_forms.specs.declared.bound.BoundInstance.{BoundInstance}
+use Rattle.flat_places.specs.declared.size.Size.{Size}
+use Rattle.flat_places.specs.Rounds.{empty_size}
 
 -- a cell, or a module that holds a cell or a wire bit, where modules have these sizes
 abbrev pub is_solid : List Size → BoundKind → Bool

@@ -1,10 +1,10 @@
 -- What the walk over a bound source needs.
 use Rattle.std.specs.Prelude.{ℕ, ◌+◌, ◌<◌, ◌^◌, List, length, slice_index}
 use Rattle.std.specs.List.{All}
-use Rattle.bound_source.specs.declared.bound.BoundPart.{BoundPart}
-use Rattle.bound_source.specs.declared.bound.BoundLink.{BoundLink}
-use Rattle.bound_source.specs.declared.bound.BoundPort.{BoundPort}
-use Rattle.flat_pieces.specs.Bits.{bit_numbers}
+use Rattle.bind_forms.specs.declared.bound.BoundPart.{BoundPart}
+use Rattle.bind_forms.specs.declared.bound.BoundLink.{BoundLink}
+use Rattle.bind_forms.specs.declared.bound.BoundPort.{BoundPort}
+use Rattle.flat_places.specs.Bits.{bit_numbers}
 
 -- the wire of a part has an offset, and its bits have numbers below 2^32
 pub record IsNumbered (offsets : List ℕ) (part : BoundPart) : Type 0 where

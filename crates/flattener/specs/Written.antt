@@ -1,5 +1,5 @@
 -- What the walk has written out, as a piece.
-use Rattle.flat_pieces.specs.Pieces.{Piece}
+use Rattle.flat_places.specs.Pieces.{Piece}
 use Rattle.flattener.specs.declared.wiring.Wiring.{Wiring}
 
 abbrev pub piece_of : Wiring → Piece

@@ -5,13 +5,13 @@ ghost use Rattle.std.specs.List.{All, flat_map, enumerate_from, range_with_len};
 ghost use Rattle.rsfq_ids.specs.WellFormed.{IsTable, drivers_of, readers_of};
 ghost use Rattle.rsfq_ids.specs.declared.circuit.Driver.TheVariants.{Out};
 ghost use Rattle.rsfq_ids.specs.declared.circuit.Reader.TheVariants.{Pin};
-ghost use Rattle.bound_source.specs.Bits.{width_of};
+ghost use Rattle.bind_forms.specs.Bits.{width_of};
 ghost use Rattle.flat_places.specs.Circuit.{port_bits};
-ghost use Rattle.flat_pieces.specs.Paths.{longer};
+ghost use Rattle.flat_places.specs.Paths.{longer};
 ghost use Rattle.flattener.specs.Ends.{bare, bits_of_port, input_drivers, output_readers, input_places, output_places, HasDriver, HasReader, printed_driver, printed_reader};
 
 use crate::wiring::reading_pins;
-use bound_source::BoundPort;
+use bind_forms::BoundPort;
 use flat_names::{bit_name, longer_path};
 use rsfq_ids::circuit::{Driver, FlatCell, PortBit, Reader};
 use rsfq_ids::id::{CellId, Id, NetId, PortId};

@@ -4,7 +4,7 @@ ghost use Rattle.std.specs.Prelude.{◌≡◌};
 ghost use Rattle.flattener.specs.declared.fault.FlatFault.TheVariants.{Memory};
 ghost use Rattle.flattener.specs.Limits.{flat_fault};
 
-use design_size::SizeFault;
+use flat_places::SizeFault;
 use rsfq_ids::list::{List, NoMemory};
 use rsfq_ids::name::Name;
 use std::alloc::{AllocError, AllocFailed};

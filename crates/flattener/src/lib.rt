@@ -3,6 +3,7 @@
 //! The printed names of places in refusals are those of `flat_names`.
 #![tactic(auto)]
 
+mod assigns;
 mod ends;
 mod fault;
 mod flattening;
@@ -13,6 +14,3 @@ mod wiring;
 
 pub use fault::FlatFault;
 pub use flattening::flatten;
-
-#[cfg(test)]
-mod tests;

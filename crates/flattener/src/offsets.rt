@@ -1,22 +1,17 @@
 //! The numbers of the bits of a module's wires.
 
-ghost use Rattle.std.specs.Prelude.{◌≡◌, ◌↔◌, ◌+◌, ◌<◌, ◌≤◌, ◌^◌, ◌++◌, ℕ, map, length, slice_get, slice_index, Some, IfOk, OnOk, IsTrue};
+ghost use Rattle.std.specs.Prelude.{◌≡◌, ◌+◌, ◌<◌, ◌^◌, ◌++◌, ℕ, map, length, slice_get, slice_index, Some, IfOk, OnOk};
 ghost use Rattle.std.specs.List.{All, range_with_len, zip};
 ghost use Rattle.std.specs.Option.{option_map};
-ghost use Rattle.bound_source.specs.WellFormed.{parts_width};
-ghost use Rattle.design_size.specs.Hierarchy.{bits_of};
-ghost use Rattle.flat_pieces.specs.Bits.{offsets_from, part_numbers, bit_numbers, linked_number, linked_numbers, ends_link, assign_links, port_links};
+ghost use Rattle.flat_places.specs.Hierarchy.{bits_of};
+ghost use Rattle.flat_places.specs.Bits.{offsets_from, part_numbers, bit_numbers, linked_number, linked_numbers, ends_link, assign_links, port_links};
 ghost use Rattle.flattener.specs.Wiring.{AreNumbered, IsNumbered};
 
-use alias_nets::Link;
-use bound_source::{BoundAssign, BoundLink, BoundPart, BoundWire};
-use design_size::width;
+use bind_forms::{BoundAssign, BoundLink, BoundPart, BoundWire};
+use flat_aliases::Link;
+use flat_places::width;
 use rsfq_ids::list::NoMemory;
 use std::alloc::Global;
-
-/// The most links that are written out, as a text may assign the same bits any number of times. Each takes 8 bytes, and 16 more while drivers or
-/// rings are looked for.
-const MOST_LINKS: usize = 1 << 26;
 
 /// Where the bits of each wire begin, those of the first one at `base`.
 pub fn offsets_of(alloc: Global, wires: &[BoundWire], base: u32) -> Result<Vec<u32>, NoMemory>
@@ -59,17 +54,6 @@ fn places_of(alloc: Global, parts: &[BoundPart], offsets: &[u32]) -> Result<Vec<
     Ok(places)
 }
 
-/// Whether a link for each bit of parts may be written out behind so many links.
-fn has_room(links: usize, parts: &[BoundPart]) -> bool
-    ensures { IsTrue result ↔ (links + parts_width parts.now ≤ 67108864) }
-{
-    let mut wanted = links;
-    for part in parts {
-        wanted = wanted.saturating_add(part.count as usize);
-    }
-    wanted <= MOST_LINKS
-}
-
 /// Adds a link from each place to the one beside it.
 fn push_pairs(links: &mut Vec<Link>, sources: &[u32], targets: &[u32]) -> Result<(), NoMemory>
     ensures { OnOk result (links.new.items ≡ links.old.items ++ map ends_link (zip sources.now targets.now)) }
@@ -83,7 +67,7 @@ fn push_pairs(links: &mut Vec<Link>, sources: &[u32], targets: &[u32]) -> Result
     Ok(())
 }
 
-/// Adds the links of an assign. More than [`MOST_LINKS`] in all are answered as want of memory.
+/// Adds the links of an assign.
 pub fn push_assign(
     alloc: Global,
     links: &mut Vec<Link>,
@@ -94,16 +78,12 @@ pub fn push_assign(
     requires from { AreNumbered offsets.now assign.now.from }
     ensures { OnOk result (links.new.items ≡ links.old.items ++ assign_links offsets.now assign.now) }
 {
-    if !has_room(links.len(), assign.from.as_slice()) {
-        return Err(NoMemory);
-    }
     let targets = places_of(alloc, assign.to.as_slice(), offsets)?;
     let sources = places_of(alloc, assign.from.as_slice(), offsets)?;
     push_pairs(links, sources.as_slice(), targets.as_slice())
 }
 
-/// Adds the links of a port, whose bits begin at `start`, with the bits of parts outside: out of an output, into an input. More than
-/// [`MOST_LINKS`] in all are answered as want of memory.
+/// Adds the links of a port, whose bits begin at `start`, with the bits of parts outside: out of an output, into an input.
 pub fn push_port(
     alloc: Global,
     links: &mut Vec<Link>,
@@ -116,9 +96,6 @@ pub fn push_port(
     requires port { start + length (bit_numbers offsets.now parts.now) < 2 ^ 32 }
     ensures { OnOk result (links.new.items ≡ links.old.items ++ port_links offsets.now start output parts.now) }
 {
-    if !has_room(links.len(), parts) {
-        return Err(NoMemory);
-    }
     let outside = places_of(alloc, parts, offsets)?;
     for (bit, place) in outside.iter().enumerate() {
         let inside = start + bit as u32;

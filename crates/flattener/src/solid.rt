@@ -1,13 +1,13 @@
 //! The instances that hold something, which are all that a walk needs to look at.
 
 ghost use Rattle.std.specs.Prelude.{◌≡◌, ◌<◌, ℕ, map, length, slice_get, Some, IfOk};
-ghost use Rattle.bound_source.specs.declared.bound.BoundModule.{BoundModule};
-ghost use Rattle.design_size.specs.Hierarchy.{module_of};
-ghost use Rattle.design_size.specs.Rounds.{AreBelow};
+ghost use Rattle.bind_forms.specs.declared.bound.BoundModule.{BoundModule};
+ghost use Rattle.flat_places.specs.Hierarchy.{module_of};
+ghost use Rattle.flat_places.specs.Rounds.{AreBelow};
 ghost use Rattle.flattener.specs.Solid.{is_solid, solid_places};
 
-use bound_source::{BoundInstance, BoundKind, BoundModule};
-use design_size::Size;
+use bind_forms::{BoundInstance, BoundKind, BoundModule};
+use flat_places::Size;
 use rsfq_ids::list::{List, NoMemory};
 use std::alloc::Global;
 

@@ -3,20 +3,21 @@
 ghost use Rattle.std.specs.Prelude.{◌≡◌, ◌+◌, ◌<◌, ◌≤◌, ◌^◌, ◌-◌, length, IfOk, OnOk};
 ghost use Rattle.std.specs.List.{All, flat_map};
 ghost use Rattle.std.specs.Option.{option_copied};
-ghost use Rattle.design_size.specs.Hierarchy.{bits_of, wires_of, IsDeeper};
-ghost use Rattle.flat_pieces.specs.Bits.{offsets_from, assign_links};
-ghost use Rattle.flat_pieces.specs.Paths.{longer};
-ghost use Rattle.flat_pieces.specs.Pieces.{empty, joined, only_places, only_links, reading_of, cell_piece, links_of_link, inside_piece, instance_at};
-ghost use Rattle.flat_names.specs.Design.{IsWithin};
+ghost use Rattle.flat_places.specs.Hierarchy.{bits_of, wires_of, IsDeeper};
+ghost use Rattle.flat_places.specs.Bits.{offsets_from, assign_links};
+ghost use Rattle.flat_places.specs.Assigns.{new_places, different};
+ghost use Rattle.flat_places.specs.Paths.{longer};
+ghost use Rattle.flat_places.specs.Pieces.{empty, joined, only_places, only_links, reading_of, cell_piece, links_of_link, inside_piece, instance_at};
+ghost use Rattle.flat_names.specs.Measured.{IsWithin};
 ghost use Rattle.flattener.specs.Wiring.{AreNumbered, IsNumberedLink};
 ghost use Rattle.flattener.specs.Written.{piece_of};
 ghost use Rattle.flattener.specs.Walk.{IsWalk, IsInstanceOn, AreOffsets, HasRoom};
 
 use crate::offsets::{offsets_of, push_assign, push_linked, push_port};
-use alias_nets::Link;
-use bound_source::{BoundAssign, BoundInstance, BoundKind, BoundLink, BoundPort, BoundWire};
-use design_size::{Size, width};
-use flat_names::{Design, longer_path};
+use bind_forms::{BoundAssign, BoundInstance, BoundKind, BoundLink, BoundPort, BoundWire};
+use flat_aliases::Link;
+use flat_names::{MeasuredSource, longer_path};
+use flat_places::{Size, width};
 use rsfq_ids::circuit::FlatCell;
 use rsfq_ids::id::CellId;
 use rsfq_ids::list::{IdVec, List, NoMemory};
@@ -24,12 +25,14 @@ use rsfq_ids::name::Name;
 use rsfq_ids::table::CellRow;
 use std::alloc::Global;
 
-/// A design, and which of its instances the walk looks at.
+/// A source, and which of its instances the walk looks at.
 #[derive(Clone, Copy, Debug)]
 pub struct Walk<'a> {
-    pub design: Design<'a>,
+    pub source: MeasuredSource<'a>,
     /// The places of the instances in each module that hold something, so that no copy of a module looks at the others.
     pub solid: &'a [List<usize>],
+    /// The places of the assigns in each module that join what no assign before them does.
+    pub assigns: &'a [List<usize>],
 }
 
 /// What the walk has written out so far.
@@ -87,18 +90,20 @@ impl Wiring {
         Ok(offsets)
     }
 
-    /// Adds the links of a module's assigns.
+    /// Adds the links of a module's assigns, each once: those at the new places.
     fn add_assigns(
         &mut self,
         alloc: Global,
         assigns: &[BoundAssign],
+        places: &[usize],
         offsets: &[u32],
     ) -> Result<(), NoMemory>
-        requires { All (λ assign. AreNumbered offsets.now assign.to × AreNumbered offsets.now assign.from) assigns.now }
-        ensures { OnOk result (piece_of self.new ≡ joined (piece_of self.old) (only_links (flat_map (assign_links offsets.now) assigns.now))) }
+        requires parts { All (λ assign. AreNumbered offsets.now assign.to × AreNumbered offsets.now assign.from) assigns.now }
+        requires places { places.now ≡ new_places assigns.now }
+        ensures { OnOk result (piece_of self.new ≡ joined (piece_of self.old) (only_links (flat_map (assign_links offsets.now) (different assigns.now)))) }
     {
-        for assign in assigns {
-            push_assign(alloc, &mut self.links, assign, offsets)?;
+        for place in places {
+            push_assign(alloc, &mut self.links, &assigns[*place], offsets)?;
         }
         Ok(())
     }
@@ -174,16 +179,18 @@ pub fn wire_up(
     wiring: &mut Wiring,
 ) -> Result<(), NoMemory>
     requires walk { IsWalk walk }
-    requires there { at < length walk.design.bound.now.modules }
+    requires there { at < length walk.source.bound.now.modules }
     requires levels { levels ≤ 64 }
-    requires deep { ¬ IsDeeper walk.design.bound.now levels at }
-    requires offsets { AreOffsets offsets.now (wires_of walk.design.bound.now at) }
-    requires room { HasRoom (joined (piece_of wiring.old) (inside_piece walk.design.cells.now walk.design.bound.now levels at (option_copied path) offsets.now wiring.old.places)) }
+    requires deep { ¬ IsDeeper walk.source.bound.now levels at }
+    requires offsets { AreOffsets offsets.now (wires_of walk.source.bound.now at) }
+    requires room { HasRoom (joined (piece_of wiring.old) (inside_piece walk.source.cells.now walk.source.bound.now levels at (option_copied path) offsets.now wiring.old.places)) }
     ensures { OnOk result (piece_of wiring.new ≡ joined (piece_of wiring.old)
-        (inside_piece walk.entry.design.cells.now walk.entry.design.bound.now levels at (option_copied path.entry) offsets.now wiring.old.places)) }
+        (inside_piece walk.entry.source.cells.now walk.entry.source.bound.now levels at (option_copied path.entry) offsets.now wiring.old.places)) }
 {
-    let owner = &walk.design.bound.modules.as_slice()[at as usize];
-    wiring.add_assigns(alloc, owner.assigns.as_slice(), offsets)?;
+    let owner = &walk.source.bound.modules.as_slice()[at as usize];
+    let assigns = owner.assigns.as_slice();
+    let places = walk.assigns[at as usize].as_slice();
+    wiring.add_assigns(alloc, assigns, places, offsets)?;
     let instances = owner.instances.as_slice();
     for place in walk.solid[at as usize].as_slice() {
         let instance = &instances[*place];
@@ -204,23 +211,23 @@ fn wire_instance(
     wiring: &mut Wiring,
 ) -> Result<(), NoMemory>
     requires walk { IsWalk walk }
-    requires instance { IsInstanceOn walk.design.cells.now walk.design.bound.now offsets.now instance.now }
+    requires instance { IsInstanceOn walk.source.cells.now walk.source.bound.now offsets.now instance.now }
     requires levels { levels ≤ 64 }
-    requires deep { IsWithin walk.design.bound.now levels instance.now.kind }
-    requires room { HasRoom (joined (piece_of wiring.old) (instance_at walk.design.cells.now walk.design.bound.now levels (option_copied path) offsets.now wiring.old.places instance.now)) }
+    requires deep { IsWithin walk.source.bound.now levels instance.now.kind }
+    requires room { HasRoom (joined (piece_of wiring.old) (instance_at walk.source.cells.now walk.source.bound.now levels (option_copied path) offsets.now wiring.old.places instance.now)) }
     ensures { OnOk result (piece_of wiring.new ≡ joined (piece_of wiring.old)
-        (instance_at walk.entry.design.cells.now walk.entry.design.bound.now levels (option_copied path.entry) offsets.now wiring.old.places instance.now)) }
+        (instance_at walk.entry.source.cells.now walk.entry.source.bound.now levels (option_copied path.entry) offsets.now wiring.old.places instance.now)) }
 {
     let links = instance.links.as_slice();
     match instance.kind {
         BoundKind::Cell(number) => {
-            let row = &walk.design.cells.rows.as_slice()[number as usize];
+            let row = &walk.source.cells.rows.as_slice()[number as usize];
             let path = longer_path(alloc, path, instance.name.as_str())?;
             wiring.add_cell(path, number, row, links, offsets)
         }
         BoundKind::Module(at) => {
-            let size = walk.design.sizes[at as usize];
-            let owner = &walk.design.bound.modules.as_slice()[at as usize];
+            let size = walk.source.sizes[at as usize];
+            let owner = &walk.source.bound.modules.as_slice()[at as usize];
             let inner = wiring.place_wires(alloc, owner.wires.as_slice())?;
             wiring.add_links(
                 alloc,

@@ -1,5 +1,5 @@
 use Rattle.std.proofs.Common.{◌+◌, ◌<◌, ℕ, List, [], ◌∷◌, length, get_or, sym, ap, subst, arith, length-append}
-use Rattle.bound_source.specs.declared.bound.BoundModule.{BoundModule}
+use Rattle.bind_forms.specs.declared.bound.BoundModule.{BoundModule}
 use Rattle.flat_names.specs.declared.begins.Begins.{Begins}
 use Rattle.flat_names.specs.Begins.{IsBegun, AreBegun}
 use Rattle.flat_names.proofs.Begun.{begun_more}
@@ -7,7 +7,7 @@ use Rattle.flat_names.proofs.begins.begins_of.Goals as goal
 
 pub loop-owner-preserved : goal.loop-owner-preserved
 loop-owner-preserved c =
-    let sizes = c.args.design.sizes.now in
+    let sizes = c.args.source.sizes.now in
     let modules = c.as_slice-owner-items.result.now in
     let i = c.loop-owner.owner-index in
     let before = c.loop-owner.begins.items in
@@ -29,5 +29,5 @@ returns c =
     let end = c.loop-owner-test.false in
     let within = c.loop-owner.auto.owner-index-end in
     let counted = so_far.counted in
-    subst (λ (modules : List BoundModule). AreBegun c.args.design.sizes.now modules c.loop-owner.begins.items) c.as_slice-owner-items.ensures
+    subst (λ (modules : List BoundModule). AreBegun c.args.source.sizes.now modules c.loop-owner.begins.items) c.as_slice-owner-items.ensures
     (record { counted = omega (arith, counted, end, within); each = λ at owner begin low. so_far.each at owner begin (omega (arith, low, end)) })

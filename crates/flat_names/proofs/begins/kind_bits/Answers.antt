@@ -1,5 +1,5 @@
 use Rattle.std.proofs.Common.{ap}
-use Rattle.design_size.specs.Hierarchy.{module_of}
+use Rattle.flat_places.specs.Hierarchy.{module_of}
 use Rattle.flat_names.proofs.begins.kind_bits.Goals as goal
 
 pub bounds-sizes-at : goal.bounds-sizes-at

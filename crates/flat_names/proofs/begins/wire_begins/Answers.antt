@@ -1,6 +1,6 @@
 use Rattle.std.proofs.Common.{◌≡◌, ◌+◌, ◌<◌, ℕ, min, List, [], ◌∷◌, take, length, sum_by, get_or, sym, ap, subst, arith, length-append}
-use Rattle.bound_source.specs.declared.bound.BoundWire.{BoundWire}
-use Rattle.bound_source.specs.Bits.{width_of}
+use Rattle.bind_forms.specs.declared.bound.BoundWire.{BoundWire}
+use Rattle.bind_forms.specs.Bits.{width_of}
 use Rattle.flat_names.proofs.Begun.{next_begin, begin_more}
 use Rattle.flat_names.proofs.begins.wire_begins.Goals as goal
 

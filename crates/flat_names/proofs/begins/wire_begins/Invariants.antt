@@ -1,6 +1,6 @@
 use Rattle.std.proofs.Common.{◌≡◌, ◌+◌, ◌<◌, ℕ, min, take, length, sum_by, get_or}
-use Rattle.bound_source.specs.declared.bound.BoundWire.{BoundWire}
-use Rattle.bound_source.specs.Bits.{width_of}
+use Rattle.bind_forms.specs.declared.bound.BoundWire.{BoundWire}
+use Rattle.bind_forms.specs.Bits.{width_of}
 use Rattle.flat_names.proofs.begins.wire_begins.Given as goal
 
 abbrev pub invariant-loop-wire : goal.invariant-loop-wire

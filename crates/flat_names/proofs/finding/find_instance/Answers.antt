@@ -1,20 +1,20 @@
 use Rattle.std.proofs.Common.{◌≡◌, ◌∙◌, ◌-◌, ◌<◌, ℕ, List, Some, length, get_or, refl, sym, ap, subst, arith}
 use Rattle.std.specs.Prelude.{slice_get}
 use Rattle.std.proofs.lemmas.Option.{slice_get_read}
-use Rattle.bound_source.specs.declared.bound.BoundInstance.{BoundInstance}
-use Rattle.design_size.specs.Hierarchy.{instances_of, bits_by}
-use Rattle.design_size.specs.Rounds.{empty_size}
+use Rattle.bind_forms.specs.declared.bound.BoundInstance.{BoundInstance}
+use Rattle.flat_places.specs.Hierarchy.{instances_of, bits_by}
+use Rattle.flat_places.specs.Rounds.{empty_size}
 use Rattle.flat_names.specs.Begins.{AreBegins}
 use Rattle.flat_names.specs.Found.{size_bits, IsInInstance}
 use Rattle.flat_names.proofs.Begun.{lies_in}
 use Rattle.flat_names.proofs.Lists.{read_from}
-use Rattle.flat_names.proofs.Modules.{instances_at}
 use Rattle.flat_names.proofs.finding.find_instance.Goals as goal
+use Rattle.flat_places.proofs.Modules.{instances_at}
 
 pub unreachable-requires : goal.unreachable-requires
 unreachable-requires c =
-    let bound = c.args.design.bound.now in
-    let sizes = c.args.design.sizes.now in
+    let bound = c.args.source.bound.now in
+    let sizes = c.args.source.sizes.now in
     let owner = c.index-as_slice-at.result in
     let there = slice_get_read bound.modules (length bound.modules) c.args.at owner refl c.requires.there (read_from bound.modules c.as_slice.result.now c.args.at owner c.as_slice.ensures c.index-as_slice-at.is) in
     let xs = c.as_slice-instances.result.now in
@@ -34,8 +34,8 @@ unreachable-requires c =
 
 pub returns : goal.returns
 returns c =
-    let bound = c.args.design.bound.now in
-    let sizes = c.args.design.sizes.now in
+    let bound = c.args.source.bound.now in
+    let sizes = c.args.source.sizes.now in
     let owner = c.index-as_slice-at.result in
     let there = slice_get_read bound.modules (length bound.modules) c.args.at owner refl c.requires.there (read_from bound.modules c.as_slice.result.now c.args.at owner c.as_slice.ensures c.index-as_slice-at.is) in
     let xs = c.as_slice-instances.result.now in

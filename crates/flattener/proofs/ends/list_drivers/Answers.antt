@@ -7,11 +7,12 @@ use Rattle.rsfq_ids.specs.declared.circuit.Driver.{Driver}
 use Rattle.rsfq_ids.specs.declared.circuit.Driver.TheVariants.{Out}
 use Rattle.rsfq_ids.specs.declared.circuit.FlatCell.{FlatCell}
 use Rattle.rsfq_ids.specs.WellFormed.{IsRow}
-use Rattle.flat_names.proofs.Lists.{read_from, all_got}
+use Rattle.flat_names.proofs.Lists.{read_from}
 use Rattle.flattener.specs.Ends.{input_drivers, cell_drivers}
 use Rattle.flattener.proofs.Lists.{numbered_step}
 use Rattle.flattener.proofs.Listing.{few_inputs, few_outputs, outputs_at}
 use Rattle.flattener.proofs.ends.list_drivers.Goals as goal
+use Rattle.flat_places.proofs.Joined.{all_got}
 
 pub loop-number-init : goal.loop-number-init
 loop-number-init c =

@@ -2,7 +2,7 @@ use Rattle.std.proofs.Common.{◌∙◌, ◌-◌, ◌++◌, ◌∷◌, [], ℕ, 
 use Rattle.std.specs.List.{range_with_len}
 use Rattle.std.proofs.lemmas.List.FromFn.{length-map-range_with_len}
 use Rattle.rsfq_ids.specs.declared.circuit.PortBit.{PortBit}
-use Rattle.bound_source.specs.Bits.{bit_name}
+use Rattle.bind_forms.specs.Bits.{bit_name}
 use Rattle.flattener.specs.Ends.{port_bit}
 use Rattle.flattener.proofs.Lists.{number_step}
 use Rattle.flattener.proofs.ends.push_port_bits.Goals as goal

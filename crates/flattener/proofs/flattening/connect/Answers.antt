@@ -10,14 +10,14 @@ returns-clause-circuit c =
     let flat : Flat = record { ports = ends.ports; cells = c.args.wiring.cells; nets = ends.nets; pins = c.in_ok-pins.pins } in
     let e = c.in_ok-ends.ensures in
     let p = c.in_ok-pins.ensures.ok in
-    is_circuit c.args.design.cells.now c.args.design.bound.now flat e.has_shape e.nets (p.listed ∙ e.readers) p.read
+    is_circuit c.args.source.cells.now c.args.source.bound.now flat e.has_shape e.nets (p.listed ∙ e.readers) p.read
 
 pub returns-clause-flat : goal.returns-clause-flat
 returns-clause-flat c =
-    let table = c.args.design.cells.now in
-    let bound = c.args.design.bound.now in
+    let table = c.args.source.cells.now in
+    let bound = c.args.source.bound.now in
     let ends = c.in_ok-ends.ends in
     let flat : Flat = record { ports = ends.ports; cells = c.args.wiring.cells; nets = ends.nets; pins = c.in_ok-pins.pins } in
     let e = c.in_ok-ends.ensures in
     let p = c.in_ok-pins.ensures.ok in
-    is_flat table bound flat c.requires.design.is_bound e.has_shape e.few_cells (rows_of table bound (piece_of c.args.wiring) c.args.wiring.cells c.requires.written refl) e.nets (p.listed ∙ e.readers) p.read
+    is_flat table bound flat c.requires.source.is_bound e.has_shape e.few_cells (rows_of table bound (piece_of c.args.wiring) c.args.wiring.cells c.requires.written refl) e.nets (p.listed ∙ e.readers) p.read

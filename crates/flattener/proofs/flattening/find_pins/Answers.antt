@@ -4,7 +4,7 @@ use Rattle.rsfq_ids.specs.declared.circuit.Driver.{Driver}
 use Rattle.rsfq_ids.specs.declared.circuit.PortBit.{PortBit}
 use Rattle.rsfq_ids.specs.declared.circuit.Pin.{Pin}
 use Rattle.rsfq_ids.specs.WellFormed.{drivers_of, readers_of}
-use Rattle.flat_pieces.specs.Whole.{IsShapeOf, ReadsNet}
+use Rattle.flat_places.specs.Whole.{IsShapeOf, ReadsNet}
 use Rattle.flat_names.proofs.Lists.{ok_then}
 use Rattle.flattener.specs.declared.shape.Shape.{Shape}
 use Rattle.flattener.specs.Ends.{input_places, output_places}
@@ -17,8 +17,8 @@ use Rattle.flattener.proofs.flattening.find_pins.Goals as goal
 
 pub pins-requires : goal.pins-requires
 pins-requires c =
-    let table = c.args.design.cells.now in
-    let bound = c.args.design.bound.now in
+    let table = c.args.source.cells.now in
+    let bound = c.args.source.bound.now in
     let ends = c.args.ends.now in
     let e = c.requires.ends in
     let ports = c.as_slice.ensures.value in
@@ -28,7 +28,7 @@ pins-requires c =
     let few_ports = e.few_ports in
     let ports_length = ap length ports in
     let cells_length = ap length cells in
-    shaped _ (piece_of c.args.wiring.now) c.requires.design c.requires.within c.requires.written (subst (IsShapeOf bound) (sym same) e.has_shape) (omega (arith, few_cells, cells_length)) (omega (arith, few_ports, ports_length))
+    shaped _ (piece_of c.args.wiring.now) c.requires.source c.requires.within c.requires.written (subst (IsShapeOf bound) (sym same) e.has_shape) (omega (arith, few_cells, cells_length)) (omega (arith, few_ports, ports_length))
     (c.as_slice-3.ensures.value ∙ e.nets ∙ ap (drivers_of table) (sym same))
     (c.as_slice-5.ensures.value ∙ e.readers ∙ ap (readers_of table) (sym same))
     (c.as_slice-4.ensures.value ∙ e.starts ∙ ap (λ (ps : List PortBit). input_places ps ++ c.args.wiring.now.outputs.items) (sym ports))
@@ -37,12 +37,12 @@ pins-requires c =
 
 pub returns-clause-ok : goal.returns-clause-ok
 returns-clause-ok c =
-    let table = c.args.design.cells.now in
-    let bound = c.args.design.bound.now in
+    let table = c.args.source.cells.now in
+    let bound = c.args.source.bound.now in
     let ends = c.args.ends.now in
     let nets = c.as_slice-3.ensures.value in
     let shape : Shape = record {
-      design = c.args.design;
+      source = c.args.source;
       ports = c.as_slice.result;
       cells = c.as_slice-2.result;
       nets = c.as_slice-3.result;

@@ -1,5 +1,5 @@
 use Rattle.std.proofs.Common.{◌≡◌, drop}
-use Rattle.flat_pieces.specs.Bits.{linked_parts}
+use Rattle.flat_places.specs.Bits.{linked_parts}
 use Rattle.flattener.proofs.offsets.linked_place.Given as goal
 
 abbrev pub invariant-loop-link : goal.invariant-loop-link

@@ -1,6 +1,6 @@
 use Rattle.std.proofs.Common.{◌≡◌, ◌+◌, ◌++◌, drop}
-use Rattle.design_size.specs.Hierarchy.{bits_of}
-use Rattle.flat_pieces.specs.Bits.{offsets_from}
+use Rattle.flat_places.specs.Hierarchy.{bits_of}
+use Rattle.flat_places.specs.Bits.{offsets_from}
 use Rattle.flattener.proofs.offsets.offsets_of.Given as goal
 
 abbrev pub invariant-loop-wire : goal.invariant-loop-wire

@@ -1,5 +1,5 @@
 use Rattle.std.proofs.Common.{◌≡◌, ◌++◌, drop}
-use Rattle.flat_pieces.specs.Bits.{bit_numbers}
+use Rattle.flat_places.specs.Bits.{bit_numbers}
 use Rattle.flattener.proofs.offsets.places_of.Given as goal
 
 abbrev pub invariant-loop-part : goal.invariant-loop-part

@@ -1,5 +1,5 @@
 use Rattle.std.proofs.Common.{◌∙◌, ℕ, Option, ◌++◌, ◌∷◌, [], ap}
-use Rattle.flat_pieces.specs.Bits.{linked_number}
+use Rattle.flat_places.specs.Bits.{linked_number}
 use Rattle.flattener.proofs.Lists.{number_step}
 use Rattle.flattener.proofs.offsets.push_linked.Goals as goal
 

@@ -1,5 +1,5 @@
 use Rattle.std.proofs.Common.{◌≡◌, ◌-◌, ◌++◌}
-use Rattle.flat_pieces.specs.Bits.{linked_numbers}
+use Rattle.flat_places.specs.Bits.{linked_numbers}
 use Rattle.flattener.proofs.offsets.push_linked.Given as goal
 
 abbrev pub invariant-loop-port : goal.invariant-loop-port

@@ -1,5 +1,5 @@
 use Rattle.std.proofs.Common.{arith, ◌≤◌, length, min}
-use Rattle.flat_pieces.specs.Bits.{ends_link}
+use Rattle.flat_places.specs.Bits.{ends_link}
 use Rattle.flattener.proofs.Lists.{zip_end}
 use Rattle.flattener.proofs.offsets.push_pairs.Goals as goal
 

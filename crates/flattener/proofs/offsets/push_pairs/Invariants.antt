@@ -1,6 +1,6 @@
 use Rattle.std.proofs.Common.{◌≡◌, ◌++◌, drop, map}
 use Rattle.std.specs.List.{zip}
-use Rattle.flat_pieces.specs.Bits.{ends_link}
+use Rattle.flat_places.specs.Bits.{ends_link}
 use Rattle.flattener.proofs.offsets.push_pairs.Given as goal
 
 abbrev pub invariant-loop-at : goal.invariant-loop-at

@@ -1,6 +1,6 @@
 use Rattle.std.proofs.Common.{◌≡◌, ◌++◌, drop, map}
 use Rattle.std.specs.List.{enumerate_from}
-use Rattle.flat_pieces.specs.Bits.{port_link}
+use Rattle.flat_places.specs.Bits.{port_link}
 use Rattle.flattener.proofs.offsets.push_port.Given as goal
 
 abbrev pub invariant-loop-bit : goal.invariant-loop-bit

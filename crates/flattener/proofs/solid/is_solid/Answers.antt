@@ -1,6 +1,6 @@
 use Rattle.std.proofs.Common.{ap}
-use Rattle.bound_source.specs.declared.bound.BoundKind.{BoundKind}
-use Rattle.design_size.specs.Hierarchy.{module_of}
+use Rattle.bind_forms.specs.declared.bound.BoundKind.{BoundKind}
+use Rattle.flat_places.specs.Hierarchy.{module_of}
 use Rattle.flattener.proofs.solid.is_solid.Goals as goal
 
 pub bounds-sizes-at : goal.bounds-sizes-at

@@ -1,5 +1,5 @@
 use Rattle.std.proofs.Common.{◌≡◌, ◌++◌, drop, map}
-use Rattle.bound_source.specs.declared.bound.BoundModule.{BoundModule}
+use Rattle.bind_forms.specs.declared.bound.BoundModule.{BoundModule}
 use Rattle.flattener.specs.Solid.{solid_places}
 use Rattle.flattener.proofs.solid.solid_instances.Given as goal
 

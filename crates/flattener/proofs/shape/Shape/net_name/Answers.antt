@@ -17,6 +17,6 @@ pub returns : goal.returns
 returns c =
     let shape = c.args.self in
     let d = c.index-self-net.result in
-    ok_then (λ (name : List ℕ). name ≡ printed_driver shape.design.cells.now shape.ports.now shape.cells.now (get_or shape.nets.now c.args.net d))
-    (λ (name : List ℕ). (from : Driver) → slice_get shape.nets.now c.args.net ≡ Some from → name ≡ driver_name shape.design.cells.now shape.design.bound.now from)
+    ok_then (λ (name : List ℕ). name ≡ printed_driver shape.source.cells.now shape.ports.now shape.cells.now (get_or shape.nets.now c.args.net d))
+    (λ (name : List ℕ). (from : Driver) → slice_get shape.nets.now c.args.net ≡ Some from → name ≡ driver_name shape.source.cells.now shape.source.bound.now from)
     (λ name is from e. net_printed shape c.requires.shaped c.args.net d from name c.requires.there is e) c.driver_name.result c.driver_name.ensures

@@ -17,6 +17,6 @@ pub returns : goal.returns
 returns c =
     let shape = c.args.self in
     let d = c.index-self-pin.result in
-    ok_then (λ (name : List ℕ). name ≡ printed_reader shape.design.cells.now shape.ports.now shape.cells.now (get_or shape.readers.now c.args.pin d))
-    (λ (name : List ℕ). (by : Reader) → slice_get shape.readers.now c.args.pin ≡ Some by → name ≡ reader_name shape.design.cells.now shape.design.bound.now by)
+    ok_then (λ (name : List ℕ). name ≡ printed_reader shape.source.cells.now shape.ports.now shape.cells.now (get_or shape.readers.now c.args.pin d))
+    (λ (name : List ℕ). (by : Reader) → slice_get shape.readers.now c.args.pin ≡ Some by → name ≡ reader_name shape.source.cells.now shape.source.bound.now by)
     (λ name is by e. pin_printed_as shape c.requires.shaped c.args.pin d by name c.requires.there is e) c.reader_name.result c.reader_name.ensures

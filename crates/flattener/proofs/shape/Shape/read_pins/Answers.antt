@@ -4,7 +4,7 @@ use Rattle.std.proofs.lemmas.Option.{slice_get_read}
 use Rattle.rsfq_ids.specs.declared.circuit.Pin.{Pin}
 use Rattle.rsfq_ids.specs.declared.circuit.Reader.{Reader}
 use Rattle.rsfq_ids.specs.declared.circuit.Reader.TheVariants as reader
-use Rattle.flat_pieces.specs.Whole.{ReadsNet}
+use Rattle.flat_places.specs.Whole.{ReadsNet}
 use Rattle.flattener.proofs.Resolving.{few_pins_read, pins_more, all_more, first_undriven}
 use Rattle.flattener.proofs.shape.Shape.read_pins.Goals as goal
 
@@ -33,5 +33,5 @@ loop-pin-preserved c =
     record {
       count = (let made = ap length added in let both = length-append pins (new ∷ []) in let count = i.count in omega (arith, made, both, count));
       listed = pins_more shape pins c.push.new.self pin reader c.in-Some.net c.loop-pin-test.true c.index-self-pin.is added i.listed;
-      read = all_more (λ (p : Pin). ReadsNet shape.design.cells.now shape.design.bound.now shape.nets.now p.reader p.net) pins c.push.new.self new added i.read (c.in-Some.ensures reader got);
+      read = all_more (λ (p : Pin). ReadsNet shape.source.cells.now shape.source.bound.now shape.nets.now p.reader p.net) pins c.push.new.self new added i.read (c.in-Some.ensures reader got);
     }

@@ -3,12 +3,12 @@ use Rattle.std.specs.Prelude.{slice_get, option_to_list}
 use Rattle.std.specs.List.{flat_map}
 use Rattle.std.proofs.lemmas.List.{append-nil}
 use Rattle.std.proofs.lemmas.Option.{slice_get_read}
-use Rattle.alias_nets.specs.declared.link.Link.{Link}
-use Rattle.bound_source.specs.declared.bound.BoundLink.{BoundLink}
-use Rattle.bound_source.specs.declared.bound.BoundPart.{BoundPart}
-use Rattle.bound_source.specs.declared.bound.BoundPort.{BoundPort}
-use Rattle.flat_pieces.specs.Bits.{port_links}
-use Rattle.flat_pieces.specs.Pieces.{links_of_link}
+use Rattle.flat_aliases.specs.declared.link.Link.{Link}
+use Rattle.bind_forms.specs.declared.bound.BoundLink.{BoundLink}
+use Rattle.bind_forms.specs.declared.bound.BoundPart.{BoundPart}
+use Rattle.bind_forms.specs.declared.bound.BoundPort.{BoundPort}
+use Rattle.flat_places.specs.Bits.{port_links}
+use Rattle.flat_places.specs.Pieces.{links_of_link}
 use Rattle.flattener.specs.Wiring.{IsNumberedLink}
 use Rattle.flattener.proofs.Lists.{flat_step}
 use Rattle.flattener.proofs.wiring.Wiring.add_links.Goals as goal

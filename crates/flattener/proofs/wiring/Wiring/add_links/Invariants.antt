@@ -1,6 +1,6 @@
 use Rattle.std.proofs.Common.{◌≡◌, ◌++◌, drop}
 use Rattle.std.specs.List.{flat_map}
-use Rattle.flat_pieces.specs.Pieces.{links_of_link}
+use Rattle.flat_places.specs.Pieces.{links_of_link}
 use Rattle.flattener.proofs.wiring.Wiring.add_links.Given as goal
 
 abbrev pub invariant-loop-link : goal.invariant-loop-link

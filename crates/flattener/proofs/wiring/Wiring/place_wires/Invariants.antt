@@ -1,5 +1,5 @@
 use Rattle.std.proofs.Common.{◌≡◌, ◌+◌, drop}
-use Rattle.design_size.specs.Hierarchy.{bits_of}
+use Rattle.flat_places.specs.Hierarchy.{bits_of}
 use Rattle.flattener.proofs.wiring.Wiring.place_wires.Given as goal
 
 abbrev pub invariant-loop-wire : goal.invariant-loop-wire

@@ -1,7 +1,0 @@
-pub mod Got
-pub mod Threading
-pub mod Spreading
-pub mod Walking
-pub mod Turning
-pub mod OneDriver
-pub mod Tested

@@ -1,5 +1,0 @@
-use Rattle.alias_nets.proofs.OneDriver.{held_all}
-use Rattle.alias_nets.proofs.resolving.hold_drivers.Goals as goal
-
-pub returns : goal.returns
-returns c = held_all c.args.links.now c.args.starts.now c.args.places c.in_ok-net.net c.in_ok-spread.spread c.in_ok-net.ensures c.in_ok-spread.ensures

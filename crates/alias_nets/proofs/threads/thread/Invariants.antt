@@ -1,5 +1,0 @@
-use Rattle.alias_nets.proofs.Threading.{IsThreadedTo}
-use Rattle.alias_nets.proofs.threads.thread.Given as goal
-
-abbrev pub invariant-loop-at : goal.invariant-loop-at
-invariant-loop-at l = IsThreadedTo l.links l.places l.at l.last.items l.before.items

@@ -1,6 +1,0 @@
-use Rattle.std.proofs.Common.{◌≡◌, min, take}
-use Rattle.design_size.specs.Hierarchy.{bits_of}
-use Rattle.design_size.proofs.size.count_bits.Given as goal
-
-abbrev pub invariant-loop-wire : goal.invariant-loop-wire
-invariant-loop-wire l = l.bits ≡ min (bits_of (take l.wire-index l.wires)) 2000001

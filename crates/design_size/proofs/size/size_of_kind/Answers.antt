@@ -1,6 +1,0 @@
-use Rattle.std.proofs.Common.{ap}
-use Rattle.design_size.specs.Hierarchy.{module_of}
-use Rattle.design_size.proofs.size.size_of_kind.Goals as goal
-
-pub bounds-below-at : goal.bounds-below-at
-bounds-below-at c = c.requires c.in-Module.at (ap module_of c.in-Module.is)

@@ -1,6 +1,0 @@
-use Rattle.std.proofs.Common.{◌≡◌, take, map}
-use Rattle.design_size.specs.Rounds.{module_size}
-use Rattle.design_size.proofs.size.sizes_of_modules.Given as goal
-
-abbrev pub invariant-loop-owner : goal.invariant-loop-owner
-invariant-loop-owner l = l.sizes.items ≡ map (module_size l.below) (take l.owner-index l.modules)

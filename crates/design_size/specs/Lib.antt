@@ -1,3 +1,0 @@
-pub mod Hierarchy
-pub mod Sizes
-pub mod Rounds

@@ -1,5 +1,0 @@
-use Rattle.flat_places.proofs.Numbered.{number_is}
-use Rattle.flat_places.proofs.laws.places_are_numbered.Goals as goal
-
-pub returns : goal.returns
-returns c = number_is c.args.bound.now
