@@ -1,5 +1,6 @@
 -- The first line of a file.
 use Rattle.std.specs.Prelude.{ℕ, zero, suc, ◌+◌, ◌-◌, ◌==◌, ◌&&◌, nat_eq, nat_lt, nat_le, Bool, cond, List, [], ◌∷◌, drop, Result, Ok, Err, if◌then◌else◌}
+use Rattle.rsfq_ids.specs.declared.limits.TheConstants.{AIG_LIMIT}
 use Rattle.std.specs.List.{starts_with}
 use Rattle.aiger_parts.specs.declared.fault.AigerWhy.TheVariants as why
 use Rattle.aiger_parts.specs.declared.fault.Stop.{Stop}
@@ -39,7 +40,7 @@ zeros_at (suc count) bytes = do
 abbrev pub variables_at : List ℕ → Result (ℕ × List ℕ) Stop
 variables_at bytes = do
   x ← field_at bytes
-  if nat_lt 1000000 x.0 then Err (fault (why.Limit x.0) bytes) else Ok (x.0, x.1)
+  if nat_lt AIG_LIMIT x.0 then Err (fault (why.Limit x.0) bytes) else Ok (x.0, x.1)
 
 -- L, the number of latches, which is 0
 abbrev pub latches_at : List ℕ → Result (List ℕ) Stop

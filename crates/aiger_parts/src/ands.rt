@@ -1,6 +1,7 @@
 //! The ANDs of the binary form: two differences of literals each, in groups of seven bits, low group first.
 
 ghost use Rattle.std.specs.Prelude.{◌≡◌, ◌≤◌, ◌+◌, ◌*◌};
+ghost use Rattle.rsfq_ids.specs.declared.limits.TheConstants.{AIG_LIMIT};
 ghost use Rattle.std.specs.Option.{option_map};
 ghost use Rattle.aiger_parts.specs.Reading.{Gives, groups_at, is_cut, difference_at, and_at, many_at};
 
@@ -112,7 +113,7 @@ pub fn take_ands(
     count: u32,
     bytes: &[u8],
 ) -> Result<(List<And>, &[u8]), ReadStop>
-    requires { inputs + count ≤ 1000000 }
+    requires { inputs + count ≤ AIG_LIMIT }
     ensures { Gives (λ x. (x.0, x.1.now)) result (many_at (λ place. and_at (2 * (inputs + place + 1))) 0 count bytes.now) }
 {
     let mut ands = List::new(alloc);

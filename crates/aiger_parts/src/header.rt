@@ -1,11 +1,13 @@
 //! The first line of a file: `aag M I L O A` or `aig M I L O A`, and at most four further numbers.
 
 ghost use Rattle.std.specs.Prelude.{◌≡◌, ◌≢◌, ◌≤◌, ◌+◌, IfOk, IfErr};
+ghost use Rattle.rsfq_ids.specs.declared.limits.TheConstants.{AIG_LIMIT};
 ghost use Rattle.aiger_parts.specs.Reading.{Gives};
 ghost use Rattle.aiger_parts.specs.Header.{spaces_in, has_head, fits_form, zeros_at, variables_at, latches_at, counts_at, header_at};
 
 use crate::fault::{AigerWhy, ReadStop, Stop};
 use crate::fields::take_field;
+use rsfq_ids::limits::AIG_LIMIT;
 
 /// The two forms of a file.
 #[derive(Clone, Copy, Debug, PartialEq, Eq)]
@@ -89,11 +91,11 @@ fn take_zeros(count: usize, bytes: &[u8]) -> Result<&[u8], ReadStop>
 /// The number of variables.
 fn take_variables(bytes: &[u8]) -> Result<(u32, &[u8]), ReadStop>
     ensures is { Gives (λ x. (x.0, x.1.now)) result (variables_at bytes.now) }
-    ensures few { IfOk result (λ x. x.0 ≤ 1000000) }
+    ensures few { IfOk result (λ x. x.0 ≤ AIG_LIMIT) }
     ensures memory { IfErr result (λ e. e ≢ ReadStop.Memory) }
 {
     let (variables, rest) = take_field(bytes)?;
-    if variables > 1_000_000 {
+    if u64::from(variables) > AIG_LIMIT {
         return Err(ReadStop::At(Stop {
             left: bytes.len(),
             why: AigerWhy::Limit(variables),
@@ -147,7 +149,7 @@ fn take_counts(variables: u32, bytes: &[u8]) -> Result<(Header, &[u8]), ReadStop
 #[tactic(auto, unfolding(crate::specs::Header::header_at))]
 pub fn take_header(form: Form, bytes: &[u8]) -> Result<(Header, &[u8]), ReadStop>
     ensures is { Gives (λ x. (x.0, x.1.now)) result (header_at form bytes.now) }
-    ensures few { IfOk result (λ x. x.0.variables ≤ 1000000) }
+    ensures few { IfOk result (λ x. x.0.variables ≤ AIG_LIMIT) }
     ensures fits { IfOk result (λ x. x.0.inputs + x.0.ands ≤ x.0.variables) }
     ensures memory { IfErr result (λ e. e ≢ ReadStop.Memory) }
 {

@@ -17,6 +17,3 @@ pub use fields::take_number;
 pub use header::{Form, Header, take_header};
 pub use outputs::{end_line, take_literal, take_outputs};
 pub use symbols::{Symbols, take_symbols};
-
-#[cfg(test)]
-mod tests;

@@ -1,5 +1,6 @@
 -- ASCII files, read and written.
 use Rattle.std.proofs.Common.{◌≡◌, ◌⊎◌, ◌∙◌, inl, inr, ◌<◌, ◌≤◌, ◌+◌, ◌*◌, ◌/◌, ◌==◌, ℕ, Bool, true, false, cond, zero, suc, refl, ap, sym, subst, arith, List, [], ◌∷◌, ◌++◌, length, length-append, None, Some, Result, Ok, Err}
+use Rattle.rsfq_ids.specs.declared.limits.TheConstants.{AIG_LIMIT}
 use Rattle.std.specs.Prelude.{slice_get, map, replicate, ◌||◌}
 use Rattle.std.specs.List.{AllZip}
 use Rattle.std.proofs.lemmas.Bool.{eq-eqb, leb-true, le-leb}
@@ -7,11 +8,11 @@ use Rattle.std.proofs.lemmas.List.{append-nil}
 use Rattle.golden_aig.specs.declared.graph.Aig.{Aig}
 use Rattle.golden_aig.specs.declared.graph.And.{And}
 use Rattle.golden_aig.specs.Aig.{IsAig}
-use Rattle.and_order.specs.declared.listing.Listing.{Listing}
-use Rattle.and_order.specs.Numbers.{HoldsOnce}
-use Rattle.and_order.specs.Listing.{IsDefined, IsListing, defined_by}
-use Rattle.and_order.specs.Renaming.{Renames}
-use Rattle.and_order.proofs.Lists.{get_behind, get_more}
+use Rattle.aiger_order.specs.declared.listing.Listing.{Listing}
+use Rattle.aiger_order.specs.Numbers.{HoldsOnce}
+use Rattle.aiger_order.specs.Listing.{IsDefined, IsListing, defined_by}
+use Rattle.aiger_order.specs.Renaming.{Renames}
+use Rattle.aiger_order.proofs.Lists.{get_behind, get_more}
 use Rattle.aiger_parts.specs.declared.fault.Stop.{Stop}
 use Rattle.aiger_parts.specs.declared.fault.AigerWhy.TheVariants as why
 use Rattle.aiger_parts.specs.declared.header.Form.TheVariants as form
@@ -58,7 +59,7 @@ record TextParts (bytes : List ℕ) (listing : Listing) : Type 0 where
   r3 : List ℕ
   r4 : List ℕ
   room : length listing.inputs + length listing.ands ≤ listing.top
-  limit : listing.top ≤ 1000000
+  limit : listing.top ≤ AIG_LIMIT
   head_line : IsHeadLine form.Ascii listing.top (length listing.inputs) (length listing.outputs) (length listing.ands) head
   input_lines : AllZip WritesNumber inputs listing.inputs
   output_lines : AllZip WritesNumber outputs listing.outputs

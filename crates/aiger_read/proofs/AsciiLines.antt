@@ -6,7 +6,7 @@ use Rattle.std.proofs.lemmas.Bool.{le-ltb, eqb-true}
 use Rattle.std.proofs.lemmas.List.{append-nil}
 use Rattle.std.proofs.lemmas.Option.{slice_get_within}
 use Rattle.golden_aig.specs.declared.graph.And.{And}
-use Rattle.and_order.proofs.Lists.{get_more, get_behind}
+use Rattle.aiger_order.proofs.Lists.{get_more, get_behind}
 use Rattle.aiger_parts.specs.declared.fault.Stop.{Stop}
 use Rattle.aiger_parts.specs.declared.fault.AigerWhy.TheVariants as why
 use Rattle.aiger_read.specs.declared.lines.Used.{Used}

@@ -4,8 +4,8 @@ use Rattle.std.specs.Prelude.{nat_eq, ◌&&◌, nat_le}
 use Rattle.std.specs.List.{starts_with}
 use Rattle.std.proofs.lemmas.Bool.{eqb-true}
 use Rattle.golden_aig.specs.declared.graph.Aig.{Aig}
-use Rattle.and_order.specs.declared.listing.Listing.{Listing}
-use Rattle.and_order.specs.Renaming.{IsRenaming, IsOrdered, IsOneGraph}
+use Rattle.aiger_order.specs.declared.listing.Listing.{Listing}
+use Rattle.aiger_order.specs.Renaming.{IsRenaming, IsOrdered, IsOneGraph}
 use Rattle.aiger_parts.specs.declared.fault.Stop.{Stop}
 use Rattle.aiger_parts.specs.declared.fault.AigerFault.{AigerFault}
 use Rattle.aiger_parts.specs.declared.fault.AigerWhy.TheVariants as why
@@ -15,8 +15,8 @@ use Rattle.aiger_parts.specs.declared.header.Header.{Header}
 use Rattle.aiger_read.specs.declared.text.Text.{Text}
 use Rattle.aiger_parts.specs.Reading.{fault}
 use Rattle.aiger_parts.specs.Header.{header_at, has_head, word_of, variables_at, spaces_in}
-use Rattle.aiger_read.specs.Graph.{graph_at, IsRefusal}
-use Rattle.aiger_read.specs.Text.{text_at, listing_of, IsListRefusal, IsRingFault}
+use Rattle.aiger_read.specs.Graph.{graph_at, IsBinaryFault}
+use Rattle.aiger_read.specs.Text.{text_at, listing_of, IsAsciiFault, IsRingFault}
 use Rattle.aiger_read.specs.Both.{is_ascii, IsFileOf, SpellsNone, FilesAreSpelled}
 use Rattle.aiger_read.specs.Spelled.{Spelled, SpellOne}
 use Rattle.aiger_read.proofs.BinaryFiles.{binary_read, binary_written}
@@ -75,7 +75,7 @@ spelled bytes aig graph = (read, written) where
   written (inl file) = inl (ascii_written bytes aig file)
   written (inr file) = inr (binary_written bytes aig file)
 
-pub none_in_lines : (bytes : List ℕ) (fault : AigerFault) → is_ascii bytes ≡ true → IsListRefusal bytes fault → SpellsNone bytes fault
+pub none_in_lines : (bytes : List ℕ) (fault : AigerFault) → is_ascii bytes ≡ true → IsAsciiFault bytes fault → SpellsNone bytes fault
 none_in_lines bytes fault ascii (inl memory) = inl memory
 none_in_lines bytes fault ascii (inr refusal) = inr (no_file refusal) where
   no_file : (((stop : Stop) × (text_at bytes ≡ Err stop) × (fault.why ≡ stop.why) × (fault.offset ≡ length bytes - stop.left)) ⊎ ((text : Text) × (text_at bytes ≡ Ok text) × IsRingFault (length bytes) text fault)) → (aig : Aig) → Spelled bytes aig → ⊥
@@ -86,7 +86,7 @@ none_in_lines bytes fault ascii (inr refusal) = inr (no_file refusal) where
       let same : list.0 ≡ text = same_value list.0 text (sym list.1 ∙ is) in
       ring.none aig file.graph (subst (λ (t : Text). IsRenaming (listing_of t) aig) same list.2)
 
-pub none_in_bytes : (bytes : List ℕ) (fault : AigerFault) → is_ascii bytes ≡ false → IsRefusal bytes fault → SpellsNone bytes fault
+pub none_in_bytes : (bytes : List ℕ) (fault : AigerFault) → is_ascii bytes ≡ false → IsBinaryFault bytes fault → SpellsNone bytes fault
 none_in_bytes bytes fault other (inl memory) = inl memory
 none_in_bytes bytes fault other (inr (stop, is, why, offset)) = inr none where
   none : (aig : Aig) → Spelled bytes aig → ⊥

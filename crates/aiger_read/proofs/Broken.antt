@@ -3,8 +3,8 @@ use Rattle.std.proofs.Common.{◌≡◌, ◌⊎◌, ◌∙◌, inl, inr, ◌≤�
 use Rattle.std.specs.Prelude.{replicate, map}
 use Rattle.golden_aig.specs.declared.graph.Aig.{Aig}
 use Rattle.golden_aig.specs.declared.graph.And.{And}
-use Rattle.and_order.specs.Listing.{defined_by}
-use Rattle.and_order.specs.Ring.{IsRing}
+use Rattle.aiger_order.specs.Listing.{defined_by}
+use Rattle.aiger_order.specs.Ring.{IsRingOfAnds}
 use Rattle.aiger_parts.specs.declared.fault.AigerWhy.{AigerWhy}
 use Rattle.aiger_parts.specs.declared.fault.AigerWhy.TheVariants as why
 use Rattle.aiger_parts.specs.declared.fault.AigerFault.{AigerFault}
@@ -20,7 +20,7 @@ use Rattle.aiger_parts.specs.Symbols.{Entries, symbols_at}
 use Rattle.aiger_read.specs.Graph.{graph_at}
 use Rattle.aiger_read.specs.Lines.{lhs_of, more_at, input_at, output_at, and_line_at}
 use Rattle.aiger_read.specs.Text.{known_at, uses_of, and_of, text_at, IsRingFault}
-use Rattle.aiger_read.specs.Both.{is_ascii, IsFault}
+use Rattle.aiger_read.specs.Both.{is_ascii, IsFileFault}
 use Rattle.aiger_read.specs.Broken.{BreaksBinary, BreaksInBinarySymbols, BreaksInAsciiSymbols, BreaksInRing, BreaksAscii, Breaks, FaultsBreak}
 use Rattle.aiger_read.proofs.WellFormed.{given, same_value, bind_ok}
 use Rattle.aiger_read.proofs.HeadLines.{HeadAt, head_read}
@@ -199,7 +199,7 @@ ring_breaks bytes text fault e r =
     let le = front_shorter head.0.0.variables head.0.0.inputs head.0.0.outputs head.0.0.ands inputs.0.0 (literals_of outputs.0.0) [] bytes outputs.0.1 here in
     let left : length outputs.0.1 ≡ text.left = ap (λ (t : Text). t.left) is in
     let at = r.offset in
-    let around = subst (λ (l : List Line). IsRing (map and_of l) r.ring) (ap (λ (t : Text). t.lines) (sym is)) r.around in (
+    let around = subst (λ (l : List Line). IsRingOfAnds (map and_of l) r.ring) (ap (λ (t : Text). t.lines) (sym is)) r.around in (
       head.0.0.variables,
       head.0.0.inputs,
       head.0.0.outputs,
@@ -220,7 +220,7 @@ ring_breaks bytes text fault e r =
 
 -- ---- both forms
 
-memory_or : (bytes : List ℕ) (fault : AigerFault) → IsFault bytes fault → (t : Bool) → is_ascii bytes ≡ t → (fault.why ≡ why.Memory) ⊎ Breaks bytes fault.offset fault.why
+memory_or : (bytes : List ℕ) (fault : AigerFault) → IsFileFault bytes fault → (t : Bool) → is_ascii bytes ≡ t → (fault.why ≡ why.Memory) ⊎ Breaks bytes fault.offset fault.why
 memory_or bytes fault is true ascii = elim (is.0 ascii) [
   | inl memory ↦ inl memory
   | inr refused ↦ inr (elim refused [ inl (stop, text, cause, offset) ↦ lines (text_breaks bytes fault.offset fault.why stop text (cause, offset)) | inr (text, read, ring) ↦ lines (inr (inr (inr (inr (inr (inr (inr (ring_breaks bytes text fault read ring)))))))) ])

@@ -4,7 +4,7 @@ use Rattle.std.specs.Prelude.{nat_lt, slice_get, map}
 use Rattle.std.specs.List.{AllZip}
 use Rattle.std.proofs.lemmas.Bool.{ltb-true, leb-true}
 use Rattle.golden_aig.specs.declared.graph.And.{And}
-use Rattle.and_order.specs.Listing.{IsDefinition}
+use Rattle.aiger_order.specs.Listing.{IsDefinition}
 use Rattle.aiger_parts.specs.declared.fault.AigerWhy.{AigerWhy}
 use Rattle.aiger_parts.specs.declared.fault.AigerWhy.TheVariants as why
 use Rattle.aiger_parts.specs.declared.fault.Stop.{Stop}

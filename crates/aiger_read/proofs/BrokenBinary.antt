@@ -1,5 +1,6 @@
 -- Binary files that break, from what a reader answers.
 use Rattle.std.proofs.Common.{◌≡◌, ◌≢◌, ◌⊎◌, ◌∙◌, inl, inr, ◌<◌, ◌≤◌, ◌+◌, ◌-◌, ◌*◌, ◌^◌, ◌==◌, ℕ, Bool, true, false, cond, zero, suc, refl, ap, sym, subst, arith, List, [], ◌∷◌, ◌++◌, length, length-append, take, get_or, Option, None, Some, Result, Ok, Err}
+use Rattle.rsfq_ids.specs.declared.limits.TheConstants.{AIG_LIMIT}
 use Rattle.std.specs.Prelude.{nat_lt, slice_get, ◌||◌}
 use Rattle.std.specs.List.{concat}
 use Rattle.std.proofs.lemmas.Bool.{ltb-true, ltb-false, eqb-true, eqb-false}
@@ -70,7 +71,7 @@ outputs_low top number bytes xs e = each_at (at_most top) xs.0 (many_ok (at_most
 pub head_of_binary : (h : Header) (bytes rest : List ℕ) (head : HeadAt form.Binary h bytes rest) → IsHeadLine form.Binary (h.inputs + h.ands) h.inputs h.outputs h.ands head.line
 head_of_binary h bytes rest head = head_counts h head.line h.outputs h.ands refl refl head.fits head.is
 
-pub small_head : (h : Header) (bytes rest : List ℕ) (head : HeadAt form.Binary h bytes rest) → h.inputs + h.ands ≤ 1000000
+pub small_head : (h : Header) (bytes rest : List ℕ) (head : HeadAt form.Binary h bytes rest) → h.inputs + h.ands ≤ AIG_LIMIT
 small_head h bytes rest head = (let sum : h.variables ≡ h.inputs + h.ands = eqb-true h.variables (h.inputs + h.ands) head.fits in let limit = head.limit in omega arith)
 
 pub outputs_break : (bytes : List ℕ) (h : Header) (r0 : List ℕ) (offset : ℕ) (cause : AigerWhy) (stop : Stop) → HeadAt form.Binary h bytes r0 → many_at (λ p. literal_at (2 * (h.inputs + h.ands) + 1)) 0 h.outputs r0 ≡ Err stop → IsPlace bytes offset cause stop → BreaksInOutputs bytes offset cause

@@ -1,5 +1,6 @@
 -- First lines that break, from what a reader answers.
 use Rattle.std.proofs.Common.{◌≡◌, ◌∙◌, inl, inr, ◌<◌, ◌≤◌, ◌+◌, ◌-◌, ◌==◌, ℕ, true, false, cond, zero, suc, refl, ap, sym, subst, arith, List, [], ◌∷◌, ◌++◌, length, drop, Result, Ok, Err}
+use Rattle.rsfq_ids.specs.declared.limits.TheConstants.{AIG_LIMIT}
 use Rattle.std.specs.Prelude.{nat_lt, nat_le, nat_eq, replicate}
 use Rattle.std.specs.List.{starts_with}
 use Rattle.std.proofs.lemmas.Bool.{ltb-true, eqb-true, eqb-false, leb-true, le-leb, eq-eqb}
@@ -191,9 +192,9 @@ record FirstAt (form : Form) (bytes : List ℕ) (x : ℕ × List ℕ) : Type 0 w
   word : bytes ≡ word_of form ++ drop 4 bytes
   few : spaces_in bytes - 5 ≤ 4
   m : Spaced (drop 4 bytes) x.0 (suc (suc (suc (spaces_in bytes - 5)))) x.1
-  limit : x.0 ≤ 1000000
+  limit : x.0 ≤ AIG_LIMIT
 
-highest_right : (n : ℕ) → n ≤ 1000000 → IsRight highest n
+highest_right : (n : ℕ) → n ≤ AIG_LIMIT → IsRight highest n
 highest_right n le cause wrong = (let lt = wrong.1 in absurd (omega arith))
 
 -- a field of the first line that breaks
@@ -217,12 +218,12 @@ first_at form bytes x head e =
     record { word = word; few = omega arith; m = spaced (drop 4 bytes) x.0 (suc (suc (suc (spaces_in bytes - 5)))) x.1 m.0 (omega arith); limit = m.1 }
 
 variables_bad : (kinds : List Kind) (bytes : List ℕ) (stop : Stop) → variables_at bytes ≡ Err stop → FieldsStop (highest ∷ kinds) bytes stop
-variables_bad kinds bytes stop e = elim (bind_err (field_at bytes) (λ n. cond (nat_lt 1000000 n.0) (Err (fault (why.Limit n.0) bytes)) (given (n.0, n.1))) stop e) [
+variables_bad kinds bytes stop e = elim (bind_err (field_at bytes) (λ n. cond (nat_lt AIG_LIMIT n.0) (Err (fault (why.Limit n.0) bytes)) (given (n.0, n.1))) stop e) [
   | inl bad ↦ field_first highest kinds bytes stop (bad_field highest bytes stop bad)
-  | inr (x, is, test) ↦ elim (unless_err (nat_lt 1000000 x.0) (fault (why.Limit x.0) bytes) (given (x.0, x.1)) stop test) [
+  | inr (x, is, test) ↦ elim (unless_err (nat_lt AIG_LIMIT x.0) (fault (why.Limit x.0) bytes) (given (x.0, x.1)) stop test) [
     | inl (high, same) ↦ (
         let number = field_number bytes x is in
-        let above : 1000000 < x.0 = ltb-true 1000000 x.0 high in
+        let above : AIG_LIMIT < x.0 = ltb-true AIG_LIMIT x.0 high in
         let value = number.2 in
         field_first highest kinds bytes stop (wrong_number highest bytes stop number.0 (why.Limit x.0) number.1 same (ap (λ (n : ℕ). why.Limit n) (sym value), omega arith))
         )

@@ -4,8 +4,8 @@ use Rattle.std.specs.Prelude.{nat_lt, slice_get, map, replicate}
 use Rattle.std.proofs.lemmas.List.{append-nil, length-replicate}
 use Rattle.std.proofs.lemmas.Option.{same_Some, slice_get_within}
 use Rattle.golden_aig.specs.declared.graph.And.{And}
-use Rattle.and_order.specs.Listing.{IsDefined, defined_by}
-use Rattle.and_order.proofs.Lists.{get_behind, get_more}
+use Rattle.aiger_order.specs.Listing.{IsDefined, defined_by}
+use Rattle.aiger_order.proofs.Lists.{get_behind, get_more}
 use Rattle.aiger_parts.specs.declared.fault.AigerWhy.{AigerWhy}
 use Rattle.aiger_parts.specs.declared.fault.AigerWhy.TheVariants as why
 use Rattle.aiger_parts.specs.declared.fault.Stop.{Stop}

@@ -7,7 +7,7 @@ use Rattle.aiger_parts.specs.declared.header.Form.{Form}
 use Rattle.aiger_parts.specs.declared.header.Form.TheVariants as form
 use Rattle.aiger_parts.specs.Header.{spaces_in}
 use Rattle.aiger_read.specs.Both.{is_ascii}
-use Rattle.and_order.specs.Listing.{defined_by}
+use Rattle.aiger_order.specs.Listing.{defined_by}
 use Rattle.aiger_read.specs.Broken.{head_kinds, Kind, highest, any_count, latch_count, further_count, new_literal, used_literal, IsWrong, BreaksField, BreaksFields, BreaksLine, BreaksDifference, BreaksSecond, BreaksAnd, BreaksHead, MissesOperand, BreaksAscii, BreaksBinary, Breaks}
 
 abbrev Other : AigerWhy → Type 0

@@ -11,7 +11,7 @@ use Rattle.aiger_read.proofs.Both.{none_in_lines, none_in_bytes}
 use Rattle.aiger_read.proofs.BrokenLines.{same_stop, no_stop}
 use Rattle.aiger_read.specs.Graph.{graph_at}
 use Rattle.aiger_read.specs.Text.{text_at, IsRingFault}
-use Rattle.aiger_read.specs.Both.{is_ascii, IsFault, SpellsNone}
+use Rattle.aiger_read.specs.Both.{is_ascii, IsFileFault, SpellsNone}
 use Rattle.aiger_read.specs.Spelled.{Spelled}
 use Rattle.aiger_read.specs.Broken.{BreaksAscii, Breaks, BreaksAreFaults, IsSameCause, BreakOnce, SpelledBreakNowhere}
 use Rattle.aiger_read.proofs.Causes.{no_memory}
@@ -35,7 +35,7 @@ lines_fault bytes offset cause (inr (inr (inr (inr (inr (inl b)))))) = inl (outp
 lines_fault bytes offset cause (inr (inr (inr (inr (inr (inr (inl b))))))) = inl (operand_stops bytes offset cause b)
 lines_fault bytes offset cause (inr (inr (inr (inr (inr (inr (inr b))))))) = inr (ring_read bytes offset cause b)
 
-fault_of : (bytes : List ℕ) (offset : ℕ) (cause : AigerWhy) → Breaks bytes offset cause → IsFault bytes (record { offset = offset; why = cause })
+fault_of : (bytes : List ℕ) (offset : ℕ) (cause : AigerWhy) → Breaks bytes offset cause → IsFileFault bytes (record { offset = offset; why = cause })
 fault_of bytes offset cause b = (λ same. inr (lines_fault bytes offset cause (b.0 same)), λ other. inr (graph_stops bytes offset cause (b.1 other)))
 
 pub exact : BreaksAreFaults

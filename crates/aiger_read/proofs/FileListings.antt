@@ -1,15 +1,16 @@
 -- The listing that a graph has in a file is well formed.
 use Rattle.std.proofs.Common.{◌≡◌, ◌⊎◌, ◌∙◌, inl, inr, ◌<◌, ◌≤◌, ◌+◌, ◌-◌, ◌*◌, ◌/◌, ◌%◌, ℕ, zero, suc, refl, ap, sym, subst, arith, List, [], ◌∷◌, length, Some}
+use Rattle.rsfq_ids.specs.declared.limits.TheConstants.{AIG_LIMIT}
 use Rattle.std.specs.Prelude.{slice_get, slice_index_or, map}
 use Rattle.std.proofs.lemmas.Option.{same_Some, slice_get_within, get_or_from_slice_get}
 use Rattle.golden_aig.specs.declared.graph.Aig.{Aig}
 use Rattle.golden_aig.specs.declared.graph.And.{And}
 use Rattle.golden_aig.specs.Aig.{IsAig, variables_of}
-use Rattle.and_order.specs.declared.listing.Listing.{Listing}
-use Rattle.and_order.specs.Numbers.{HoldsOnce, file_literal, file_and}
-use Rattle.and_order.specs.Listing.{IsDefinition, IsDefined, IsListing, defined_by}
-use Rattle.and_order.specs.Renaming.{Renames}
-use Rattle.and_order.proofs.Lists.{get_more, get_parts, get_behind, get_inside}
+use Rattle.aiger_order.specs.declared.listing.Listing.{Listing}
+use Rattle.aiger_order.specs.Numbers.{HoldsOnce, file_literal, file_and}
+use Rattle.aiger_order.specs.Listing.{IsDefinition, IsDefined, IsListing, defined_by}
+use Rattle.aiger_order.specs.Renaming.{Renames}
+use Rattle.aiger_order.proofs.Lists.{get_more, get_parts, get_behind, get_inside}
 use Rattle.aiger_read.proofs.Listings.{unmapped}
 
 -- What a file says of the graph's names.
@@ -18,7 +19,7 @@ pub record IsNamedListing (listing : Listing) (aig : Aig) (names : List ℕ) : T
   pub renames : Renames listing aig names
   pub inside : (number name : ℕ) → slice_get names number ≡ Some name → name ≤ listing.top
   pub once : HoldsOnce (map (λ one. one.lhs) listing.ands)
-  pub limit : listing.top ≤ 1000000
+  pub limit : listing.top ≤ AIG_LIMIT
 
 mapped : {A B : Type 0} (f : A → B) (xs : List A) (k : ℕ) (x : A) → slice_get xs k ≡ Some x → slice_get (map f xs) k ≡ Some (f x)
 mapped f [] k x e = absurd cc

@@ -1,5 +1,6 @@
 -- The first line, read and written.
 use Rattle.std.proofs.Common.{◌≡◌, ◌≢◌, ◌∙◌, inl, inr, ◌<◌, ◌≤◌, ◌+◌, ◌-◌, ◌==◌, ℕ, Bool, true, false, cond, zero, suc, refl, ap, sym, subst, arith, List, [], ◌∷◌, ◌++◌, length, take, drop, append_assoc, Ok, Err}
+use Rattle.rsfq_ids.specs.declared.limits.TheConstants.{AIG_LIMIT}
 use Rattle.std.specs.Prelude.{nat_lt, nat_le, nat_eq, ◌&&◌, ◌||◌, replicate}
 use Rattle.std.specs.List.{AllZip, starts_with}
 use Rattle.std.specs.Char.{digit_value}
@@ -198,7 +199,7 @@ pub record HeadAt (form : Form) (header : Header) (bytes rest : List ℕ) : Type
   pub line : List ℕ
   pub is : IsHeadLine form header.variables header.inputs header.outputs header.ands line
   pub at : LineAt line bytes rest
-  pub limit : header.variables ≤ 1000000
+  pub limit : header.variables ≤ AIG_LIMIT
   pub fits : fits_form form header ≡ true
 
 header_of : ℕ → ℕ → ℕ → ℕ → Header
@@ -213,13 +214,13 @@ fewer n k low high is =
     let h : n ≤ 9 = leb-true n 9 high in
     (n - 5, omega arith, refl, omega arith)
 
-pub limited : (bytes : List ℕ) (x : ℕ × List ℕ) → variables_at bytes ≡ given x → (field_at bytes ≡ given x) × (x.0 ≤ 1000000)
+pub limited : (bytes : List ℕ) (x : ℕ × List ℕ) → variables_at bytes ≡ given x → (field_at bytes ≡ given x) × (x.0 ≤ AIG_LIMIT)
 limited bytes x e =
-    let field = bind_ok (field_at bytes) (λ n. cond (nat_lt 1000000 n.0) (Err (fault (why.Limit n.0) bytes)) (Ok (n.0, n.1))) x e in
-    let limit = unless_ok (nat_lt 1000000 field.0.0) (fault (why.Limit field.0.0) bytes) (Ok (field.0.0, field.0.1)) x field.2 in
+    let field = bind_ok (field_at bytes) (λ n. cond (nat_lt AIG_LIMIT n.0) (Err (fault (why.Limit n.0) bytes)) (Ok (n.0, n.1))) x e in
+    let limit = unless_ok (nat_lt AIG_LIMIT field.0.0) (fault (why.Limit field.0.0) bytes) (Ok (field.0.0, field.0.1)) x field.2 in
     let same : field.0 ≡ x = same_value field.0 x limit.1 in
-    let le : field.0.0 ≤ 1000000 = ltb-false 1000000 field.0.0 limit.0 in
-    (field.1 ∙ ap given same, subst (λ (y : ℕ × List ℕ). y.0 ≤ 1000000) same le)
+    let le : field.0.0 ≤ AIG_LIMIT = ltb-false AIG_LIMIT field.0.0 limit.0 in
+    (field.1 ∙ ap given same, subst (λ (y : ℕ × List ℕ). y.0 ≤ AIG_LIMIT) same le)
 
 pub no_latches : (bytes rest : List ℕ) → latches_at bytes ≡ given rest → field_at bytes ≡ given (0, rest)
 no_latches bytes rest e =
@@ -306,7 +307,7 @@ few_spaces : (n z : ℕ) → n ≡ suc (suc (suc (suc (suc z)))) → z ≤ 4 →
 few_spaces n z is le = (le-leb 5 n (omega arith), le-leb n 9 (omega arith), omega arith)
 
 -- a line that is written is read, up to the rule on M
-pub head_tested : (form : Form) (bytes : List ℕ) (header : Header) (rest line : List ℕ) → IsHeadLine form header.variables header.inputs header.outputs header.ands line → LineAt line bytes rest → header.variables ≤ 1000000
+pub head_tested : (form : Form) (bytes : List ℕ) (header : Header) (rest line : List ℕ) → IsHeadLine form header.variables header.inputs header.outputs header.ands line → LineAt line bytes rest → header.variables ≤ AIG_LIMIT
     → header_at form bytes ≡ cond (fits_form form header) (Ok (header, rest)) (Err (fault why.Header bytes))
 unfolding header_at counts_at
 head_tested form bytes header rest line h at limit =
@@ -330,9 +331,9 @@ head_tested form bytes header rest line h at limit =
     let i : field_at ri ≡ given (header.inputs, rl) = space_behind h.i rl header.inputs h.i_writes in
     let l : field_at rl ≡ given (0, ro) = space_behind h.l ro 0 h.l_writes in
     let o : field_at ro ≡ given (header.outputs, ra) = space_behind h.o ra header.outputs h.o_writes in
-    let below : nat_lt 1000000 header.variables ≡ false = le-ltb 1000000 header.variables limit in
+    let below : nat_lt AIG_LIMIT header.variables ≡ false = le-ltb AIG_LIMIT header.variables limit in
     rw whole (rw (word_begins form rm, few.0, few.1, word_behind form rm, m, below, i, l, o, f.first, few.2, f.zeros) refl)
 
-pub head_written : (form : Form) (bytes : List ℕ) (header : Header) (rest line : List ℕ) → IsHeadLine form header.variables header.inputs header.outputs header.ands line → LineAt line bytes rest → header.variables ≤ 1000000 → fits_form form header ≡ true
+pub head_written : (form : Form) (bytes : List ℕ) (header : Header) (rest line : List ℕ) → IsHeadLine form header.variables header.inputs header.outputs header.ands line → LineAt line bytes rest → header.variables ≤ AIG_LIMIT → fits_form form header ≡ true
     → header_at form bytes ≡ given (header, rest)
 head_written form bytes header rest line h at limit fits = head_tested form bytes header rest line h at limit ∙ rw fits refl

@@ -1,13 +1,14 @@
 -- What an ASCII file lists is well formed.
 use Rattle.std.proofs.Common.{◌≡◌, ◌≢◌, inl, inr, ◌∙◌, ◌≤◌, ◌+◌, ◌*◌, ◌/◌, ◌%◌, ◌==◌, ℕ, Bool, cond, true, false, zero, suc, refl, ap, sym, subst, arith, List, [], ◌∷◌, ◌++◌, length, length-append, append_assoc, None, Some, Result, Ok, Err}
+use Rattle.rsfq_ids.specs.declared.limits.TheConstants.{AIG_LIMIT}
 use Rattle.std.specs.Prelude.{slice_get, nat_lt, ◌||◌, map, replicate}
 use Rattle.std.proofs.lemmas.Bool.{ltb-false, eqb-true, eqb-false, eq-eqb}
 use Rattle.std.proofs.lemmas.List.{length-map, length-replicate, append-nil}
 use Rattle.std.proofs.lemmas.Option.{same_Some}
 use Rattle.golden_aig.specs.declared.graph.And.{And}
-use Rattle.and_order.specs.Numbers.{HoldsOnce}
-use Rattle.and_order.specs.Listing.{IsDefinition, IsDefined, IsListing, defined_by}
-use Rattle.and_order.proofs.Lists.{get_cases}
+use Rattle.aiger_order.specs.Numbers.{HoldsOnce}
+use Rattle.aiger_order.specs.Listing.{IsDefinition, IsDefined, IsListing, defined_by}
+use Rattle.aiger_order.proofs.Lists.{get_cases}
 use Rattle.aiger_parts.specs.declared.fault.Stop.{Stop}
 use Rattle.aiger_parts.specs.declared.fault.AigerWhy.TheVariants as why
 use Rattle.aiger_parts.specs.declared.header.Form.TheVariants as form
@@ -217,7 +218,7 @@ unmapped f (x ∷ xs) (suc k) y e = unmapped f xs k y e
 
 -- ---- the whole file
 
-listing_ok : (text : Text) → text.top ≤ 1000000 → AreGood text.top (text.inputs ++ lhs_of text.lines) → known_at (text.inputs ++ lhs_of text.lines) text.outputs ≡ Ok tt → known_at (text.inputs ++ lhs_of text.lines) (uses_of text.lines) ≡ Ok tt
+listing_ok : (text : Text) → text.top ≤ AIG_LIMIT → AreGood text.top (text.inputs ++ lhs_of text.lines) → known_at (text.inputs ++ lhs_of text.lines) text.outputs ≡ Ok tt → known_at (text.inputs ++ lhs_of text.lines) (uses_of text.lines) ≡ Ok tt
     → length text.in_names ≡ length text.inputs → length text.out_names ≡ length text.outputs → IsListing (listing_of text)
 listing_ok text small good outputs operands ins outs =
     let defs : text.inputs ++ lhs_of text.lines ≡ defined_by text.inputs (map and_of text.lines) = ap (λ (ls : List ℕ). text.inputs ++ ls) (sym (fused text.lines)) in

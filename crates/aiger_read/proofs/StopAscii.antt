@@ -4,8 +4,8 @@ use Rattle.std.specs.Prelude.{replicate, map}
 use Rattle.std.proofs.lemmas.Bool.{le-leb}
 use Rattle.std.proofs.lemmas.List.{append-nil}
 use Rattle.golden_aig.specs.declared.graph.And.{And}
-use Rattle.and_order.specs.Listing.{defined_by}
-use Rattle.and_order.proofs.Lists.{get_more}
+use Rattle.aiger_order.specs.Listing.{defined_by}
+use Rattle.aiger_order.proofs.Lists.{get_more}
 use Rattle.aiger_parts.specs.declared.fault.AigerWhy.{AigerWhy}
 use Rattle.aiger_parts.specs.declared.fault.Stop.{Stop}
 use Rattle.aiger_parts.specs.declared.header.Form.TheVariants as form

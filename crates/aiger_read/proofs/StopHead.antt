@@ -1,5 +1,6 @@
 -- First lines that break, and what a reader answers.
 use Rattle.std.proofs.Common.{◌≡◌, ◌⊎◌, ◌∙◌, inl, inr, ◌<◌, ◌+◌, ◌-◌, ◌==◌, ℕ, Bool, true, false, cond, zero, suc, refl, ap, sym, subst, arith, List, [], ◌∷◌, ◌++◌, length, length-append, drop, Result, Ok, Err}
+use Rattle.rsfq_ids.specs.declared.limits.TheConstants.{AIG_LIMIT}
 use Rattle.std.specs.Prelude.{nat_lt, nat_le, nat_eq, replicate}
 use Rattle.std.specs.List.{starts_with}
 use Rattle.std.proofs.lemmas.Bool.{eqb-false, ltb-true, lt-ltb, leb-true, le-leb, ne_eqb}
@@ -91,9 +92,9 @@ tested_stops {A} kind bytes cause f refuses breaks = regroup (number_at bytes) (
   regroup (Err s) stop e = e
 
 highest_stops : (bytes : List ℕ) (cause : AigerWhy) → BreaksField highest bytes cause → variables_at bytes ≡ Err (fault cause bytes)
-highest_stops bytes cause breaks = tested_stops highest bytes cause (λ x. cond (nat_lt 1000000 x.0) (Err (fault (why.Limit x.0) bytes)) (Ok (x.0, x.1))) refuses breaks where
-  refuses : (x : ℕ × List ℕ) → IsWrong highest x.0 cause → cond (nat_lt 1000000 x.0) (Err (fault (why.Limit x.0) bytes)) (Ok (x.0, x.1)) ≡ failed {A = ℕ × List ℕ} (fault cause bytes)
-  refuses x (is, high) = rw (lt-ltb 1000000 x.0 high) (ap (λ (c : AigerWhy). failed {A = ℕ × List ℕ} (fault c bytes)) (sym is))
+highest_stops bytes cause breaks = tested_stops highest bytes cause (λ x. cond (nat_lt AIG_LIMIT x.0) (Err (fault (why.Limit x.0) bytes)) (Ok (x.0, x.1))) refuses breaks where
+  refuses : (x : ℕ × List ℕ) → IsWrong highest x.0 cause → cond (nat_lt AIG_LIMIT x.0) (Err (fault (why.Limit x.0) bytes)) (Ok (x.0, x.1)) ≡ failed {A = ℕ × List ℕ} (fault cause bytes)
+  refuses x (is, high) = rw (lt-ltb AIG_LIMIT x.0 high) (ap (λ (c : AigerWhy). failed {A = ℕ × List ℕ} (fault c bytes)) (sym is))
 
 latch_stops : (bytes : List ℕ) (cause : AigerWhy) → BreaksField latch_count bytes cause → latches_at bytes ≡ Err (fault cause bytes)
 latch_stops bytes cause breaks = tested_stops latch_count bytes cause (λ x. cond (x.0 == 0) (Ok x.1) (Err (fault why.Latches bytes))) refuses breaks where
@@ -108,10 +109,10 @@ further_stops z bytes cause breaks = tested_stops further_count bytes cause (λ 
 -- ---- fields that are right
 
 highest_goes : (bytes : List ℕ) (n : ℕ) (rest : List ℕ) → field_at bytes ≡ given (n, rest) → IsRight highest n → variables_at bytes ≡ given (n, rest)
-highest_goes bytes n rest e right = rw (e, low (nat_lt 1000000 n) refl) refl where
-  low : (t : Bool) → nat_lt 1000000 n ≡ t → nat_lt 1000000 n ≡ false
+highest_goes bytes n rest e right = rw (e, low (nat_lt AIG_LIMIT n) refl) refl where
+  low : (t : Bool) → nat_lt AIG_LIMIT n ≡ t → nat_lt AIG_LIMIT n ≡ false
   low false is = is
-  low true is = absurd (right (why.Limit n) (refl, ltb-true 1000000 n is))
+  low true is = absurd (right (why.Limit n) (refl, ltb-true AIG_LIMIT n is))
 
 latch_goes : (bytes : List ℕ) (n : ℕ) (rest : List ℕ) → field_at bytes ≡ given (n, rest) → IsRight latch_count n → latches_at bytes ≡ given rest
 latch_goes bytes n rest e right = rw (e, none (n == 0) refl) refl where

@@ -2,10 +2,10 @@
 use Rattle.std.proofs.Common.{◌≡◌, ◌∙◌, inl, inr, ◌<◌, ◌+◌, ℕ, Bool, true, false, cond, suc, refl, ap, sym, subst, arith, List, [], ◌∷◌, ◌++◌, length, length-append, drop, None, Ok, Err}
 use Rattle.std.specs.Prelude.{slice_get, map, replicate}
 use Rattle.golden_aig.specs.declared.graph.And.{And}
-use Rattle.and_order.specs.Listing.{IsDefined, defined_by}
-use Rattle.and_order.specs.Ring.{IsRing}
-use Rattle.and_order.proofs.Lists.{get_behind}
-use Rattle.and_order.proofs.Renamings.{no_graph}
+use Rattle.aiger_order.specs.Listing.{IsDefined, defined_by}
+use Rattle.aiger_order.specs.Ring.{IsRingOfAnds}
+use Rattle.aiger_order.proofs.Lists.{get_behind}
+use Rattle.aiger_order.proofs.Renamings.{no_graph}
 use Rattle.aiger_parts.specs.declared.fault.AigerWhy.{AigerWhy}
 use Rattle.aiger_parts.specs.declared.fault.AigerWhy.TheVariants as why
 use Rattle.aiger_parts.specs.declared.fault.Stop.{Stop}
@@ -300,7 +300,7 @@ ring_read bytes offset cause (top, inputs, outputs, ands, literals, uses, here, 
     let text = text_for top literals a.read.used a.read.lines (length a.read.r2) a.names in
     let place : a.read.r2 ≡ here = same_outputs top inputs outputs ands literals uses xs [] bytes a.rest here a.read s ∙ no_lines top literals s.r2 here s.lines s.gates in
     let left = ap length place in
-    let around = subst (λ (l : List And). IsRing l ring) (sym a.read.lines_are) round in (
+    let around = subst (λ (l : List And). IsRingOfAnds l ring) (sym a.read.lines_are) round in (
       text,
       text_read top inputs outputs ands literals uses xs bytes a good operands,
       record { ring = ring; why = is; around = around; none = no_graph (listing_of text) ring around; offset = omega arith },

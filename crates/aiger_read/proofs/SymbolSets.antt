@@ -4,7 +4,7 @@ use Rattle.std.specs.Prelude.{slice_get, slice_set, replicate}
 use Rattle.std.proofs.lemmas.Bool.{eqb-true, eqb-false}
 use Rattle.std.proofs.lemmas.Option.{same_Some, slice_get_within}
 use Rattle.std.proofs.lemmas.List.{length-replicate}
-use Rattle.and_order.proofs.Lists.{set_same, set_other, get_inside, get_replicate}
+use Rattle.aiger_order.proofs.Lists.{set_same, set_other, get_inside, get_replicate}
 use Rattle.aiger_parts.specs.Symbols.{Entries}
 use Rattle.aiger_read.specs.Spelled.{IsSymbolLine, IsSymbol, AreSymbolLines}
 use Rattle.aiger_read.proofs.SymbolFiles.{Put, AllPut, AllOneLine, line_read, line_written, one_symbol, symbol_line_one}

@@ -1,5 +1,6 @@
 -- A graph that is read is well formed.
 use Rattle.std.proofs.Common.{◌≡◌, ◌≢◌, ◌∙◌, ◌<◌, ◌≤◌, ◌+◌, ◌-◌, ◌*◌, ◌==◌, ℕ, Bool, cond, true, false, zero, suc, refl, ap, sym, subst, arith, List, [], ◌∷◌, length, drop, take, get_or, Option, None, Some, Result, Ok, Err, zero-add}
+use Rattle.rsfq_ids.specs.declared.limits.TheConstants.{AIG_LIMIT}
 use Rattle.std.specs.Prelude.{nat_lt, replicate, slice_get, ◌||◌}
 use Rattle.std.specs.Option.{option_map}
 use Rattle.std.proofs.lemmas.Bool.{ltb-false, leb-true, eqb-true, eqb-false}
@@ -118,7 +119,7 @@ counts_ok variables bytes x e =
     let made : Header × List ℕ = (record { variables = variables; inputs = inputs.0.0; outputs = outputs.0.0; ands = ands.0.0 }, ands.0.1) in
     sym (ap (λ (p : Header × List ℕ). p.0.variables) (same_value made x ands.2))
 
-pub header_ok : (form : Form) (bytes : List ℕ) (x : Header × List ℕ) → header_at form bytes ≡ Ok x → (x.0.variables ≤ 1000000) × (x.0.inputs + x.0.ands ≤ x.0.variables)
+pub header_ok : (form : Form) (bytes : List ℕ) (x : Header × List ℕ) → header_at form bytes ≡ Ok x → (x.0.variables ≤ AIG_LIMIT) × (x.0.inputs + x.0.ands ≤ x.0.variables)
 unfolding header_at
 header_ok form bytes x e =
     let variables = bind_ok (cond (has_head form bytes) (variables_at (drop 4 bytes)) (Err (fault why.Header bytes))) (λ variables. counts_at variables.0 variables.1 >>= λ counts. zeros_at (spaces_in bytes - 5) counts.1 >>= λ behind.
@@ -129,13 +130,13 @@ header_ok form bytes x e =
     let last = when_ok (fits_form form counts.0.0) (fault why.Header bytes) (Ok (counts.0.0, behind.0)) x behind.2 in
     let is : counts.0.0 ≡ x.0 = ap (λ (p : Header × List ℕ). p.0) (same_value (counts.0.0, behind.0) x last.1) in
     let head = when_ok (has_head form bytes) (fault why.Header bytes) (variables_at (drop 4 bytes)) variables.0 variables.1 in
-    let field = bind_ok (field_at (drop 4 bytes)) (λ n. cond (nat_lt 1000000 n.0) (Err (fault (why.Limit n.0) (drop 4 bytes))) (Ok (n.0, n.1))) variables.0 head.1 in
-    let limit = unless_ok (nat_lt 1000000 field.0.0) (fault (why.Limit field.0.0) (drop 4 bytes)) (Ok (field.0.0, field.0.1)) variables.0 field.2 in
-    let le : field.0.0 ≤ 1000000 = ltb-false 1000000 field.0.0 limit.0 in
+    let field = bind_ok (field_at (drop 4 bytes)) (λ n. cond (nat_lt AIG_LIMIT n.0) (Err (fault (why.Limit n.0) (drop 4 bytes))) (Ok (n.0, n.1))) variables.0 head.1 in
+    let limit = unless_ok (nat_lt AIG_LIMIT field.0.0) (fault (why.Limit field.0.0) (drop 4 bytes)) (Ok (field.0.0, field.0.1)) variables.0 field.2 in
+    let le : field.0.0 ≤ AIG_LIMIT = ltb-false AIG_LIMIT field.0.0 limit.0 in
     let same : field.0.0 ≡ variables.0.0 = ap (λ (p : ℕ × List ℕ). p.0) (same_value (field.0.0, field.0.1) variables.0 limit.1) in
     let top : counts.0.0.variables ≡ variables.0.0 = counts_ok variables.0.0 variables.0.1 counts.0 counts.1 in
-    let small : counts.0.0.variables ≤ 1000000 = omega arith in
-    subst (λ (h : Header). (h.variables ≤ 1000000) × (h.inputs + h.ands ≤ h.variables)) is (small, fits form counts.0.0 last.0)
+    let small : counts.0.0.variables ≤ AIG_LIMIT = omega arith in
+    subst (λ (h : Header). (h.variables ≤ AIG_LIMIT) × (h.inputs + h.ands ≤ h.variables)) is (small, fits form counts.0.0 last.0)
 
 symbol_put : (entries more : Entries) (s : Option (ℕ × List ℕ)) → with_symbol entries s ≡ Some more → length more ≡ length entries
 symbol_put entries more None e = absurd cc
@@ -204,7 +205,7 @@ and_at_place inputs place one ok =
     let second = ok.2 in
     record { lhs = lhs; rhs0 = omega arith; rhs1 = omega arith }
 
-made_ok : (h : Header) (ands : List And) (outputs : List ℕ) (ins outs : Entries) → h.inputs + h.ands ≤ 1000000 → length outputs ≡ h.outputs
+made_ok : (h : Header) (ands : List And) (outputs : List ℕ) (ins outs : Entries) → h.inputs + h.ands ≤ AIG_LIMIT → length outputs ≡ h.outputs
     → ((k d : ℕ) → k < length outputs → get_or outputs k d ≤ 2 * (h.inputs + h.ands) + 1) → length ands ≡ h.ands
     → ((k : ℕ) (d : And) → k < length ands → IsAndAt h.inputs (0 + k) (get_or ands k d)) → length ins ≡ h.inputs → length outs ≡ h.outputs
     → IsAig (record { inputs = h.inputs; ands = ands; outputs = outputs; in_names = ins; out_names = outs })
@@ -234,7 +235,7 @@ graph_ok bytes aig e =
     symbols_at (length ands.1) (replicate h.inputs None, replicate h.outputs None) ands.1 >>= λ names. Ok (record { inputs = h.inputs; ands = ands.0; outputs = outputs.0.0; in_names = names.0; out_names = names.1 })) aig outputs.2 in
     let names = bind_ok (symbols_at (length ands.0.1) (replicate h.inputs None, replicate h.outputs None) ands.0.1) (λ names. Ok (record { inputs = h.inputs; ands = ands.0.0; outputs = outputs.0.0; in_names = names.0; out_names = names.1 })) aig ands.2 in
     let made : Aig = record { inputs = h.inputs; ands = ands.0.0; outputs = outputs.0.0; in_names = names.0.0; out_names = names.0.1 } in
-    let small : h.inputs + h.ands ≤ 1000000 = (let ok = header_ok form.Binary bytes head.0 head.1 in let low = ok.0 in let high = ok.1 in omega arith) in
+    let small : h.inputs + h.ands ≤ AIG_LIMIT = (let ok = header_ok form.Binary bytes head.0 head.1 in let low = ok.0 in let high = ok.1 in omega arith) in
     let lines = many_ok (λ place l. l ≤ 2 * (h.inputs + h.ands) + 1) (λ place. literal_at (2 * (h.inputs + h.ands) + 1)) (λ place bs x is. literal_ok (2 * (h.inputs + h.ands) + 1) bs x is) h.outputs 0 head.0.1 outputs.0 outputs.1 in
     let gates = many_ok (IsAndAt h.inputs) (λ place. and_at (2 * (h.inputs + place + 1))) (λ place bs x is. and_at_place h.inputs place x.0 (and_ok (2 * (h.inputs + place + 1)) bs x is)) h.ands 0 outputs.0.1 ands.0 ands.1 in
     let kept = symbols_ok (length ands.0.1) (replicate h.inputs None, replicate h.outputs None) names.0 ands.0.1 names.1 in

@@ -7,8 +7,8 @@ use Rattle.aiger_parts.specs.declared.fault.AigerWhy.TheVariants as why
 use Rattle.aiger_parts.specs.declared.fault.AigerFault.{AigerFault}
 use Rattle.aiger_parts.specs.declared.header.Form.TheVariants as form
 use Rattle.aiger_parts.specs.Header.{word_of}
-use Rattle.aiger_read.specs.Graph.{ReadsAs, IsRefusal}
-use Rattle.aiger_read.specs.Text.{ListsAs, IsListRefusal}
+use Rattle.aiger_read.specs.Graph.{ReadsAs, IsBinaryFault}
+use Rattle.aiger_read.specs.Text.{ListsAs, IsAsciiFault}
 use Rattle.aiger_read.specs.Spelled.{Spelled}
 
 -- the bytes are a file of the graph, read from the left, in the one form or the other
@@ -20,8 +20,8 @@ abbrev pub is_ascii : List ℕ → Bool
 is_ascii bytes = starts_with nat_eq bytes (word_of form.Ascii)
 
 -- the fault of the form that the file begins as; one that begins as neither is a binary file with a bad first line
-abbrev pub IsFault : List ℕ → AigerFault → Type 0
-IsFault bytes fault = (is_ascii bytes ≡ true → IsListRefusal bytes fault) × (is_ascii bytes ≡ false → IsRefusal bytes fault)
+abbrev pub IsFileFault : List ℕ → AigerFault → Type 0
+IsFileFault bytes fault = (is_ascii bytes ≡ true → IsAsciiFault bytes fault) × (is_ascii bytes ≡ false → IsBinaryFault bytes fault)
 
 -- memory ran out, or the bytes spell no graph, in neither form
 abbrev pub SpellsNone : List ℕ → AigerFault → Type 0

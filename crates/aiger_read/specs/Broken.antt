@@ -1,12 +1,13 @@
 -- Where a file breaks and for what cause: pieces as a writer writes them, up to a place, and then one that is not.
 use Rattle.std.specs.Prelude.{◌≡◌, ◌≢◌, ℕ, ◌+◌, ◌-◌, ◌*◌, ◌<◌, ◌≤◌, ◌⊎◌, ◌^◌, true, false, List, [], ◌∷◌, ◌++◌, length, take, replicate, slice_get, Some, None}
+use Rattle.rsfq_ids.specs.declared.limits.TheConstants.{AIG_LIMIT}
 use Rattle.std.specs.List.{AllZip, concat}
 use Rattle.golden_aig.specs.declared.graph.Aig.{Aig}
 use Rattle.golden_aig.specs.declared.graph.And.{And}
 use Rattle.golden_aig.specs.Aig.{IsAndAt}
-use Rattle.and_order.specs.Numbers.{HoldsOnce}
-use Rattle.and_order.specs.Listing.{IsDefinition, IsDefined, defined_by}
-use Rattle.and_order.specs.Ring.{IsRing}
+use Rattle.aiger_order.specs.Numbers.{HoldsOnce}
+use Rattle.aiger_order.specs.Listing.{IsDefinition, IsDefined, defined_by}
+use Rattle.aiger_order.specs.Ring.{IsRingOfAnds}
 use Rattle.aiger_parts.specs.declared.fault.AigerWhy.{AigerWhy}
 use Rattle.aiger_parts.specs.declared.fault.AigerWhy.TheVariants as why
 use Rattle.aiger_parts.specs.declared.fault.AigerFault.{AigerFault}
@@ -16,7 +17,7 @@ use Rattle.aiger_parts.specs.Reading.{field_length}
 use Rattle.aiger_parts.specs.Header.{spaces_in, word_of}
 use Rattle.aiger_parts.specs.Symbols.{Entries, line_length}
 use Rattle.aiger_read.specs.Spelling.{WritesNumber, WriteGroups, BeginsWithDifference}
-use Rattle.aiger_read.specs.Both.{is_ascii, IsFault}
+use Rattle.aiger_read.specs.Both.{is_ascii, IsFileFault}
 use Rattle.aiger_read.specs.Spelled.{in_lines, LacksNewline, IsHeadLine, IsSymbolLine, AreSymbolLines, WritesAnd, IsAndLine, Spelled}
 
 -- ---- fields
@@ -38,7 +39,7 @@ pub data Kind : Type 0 where
 
 -- a number that is wrong there, and why
 abbrev pub IsWrong : Kind → ℕ → AigerWhy → Type 0
-IsWrong highest n cause = (cause ≡ why.Limit n) × (1000000 < n)
+IsWrong highest n cause = (cause ≡ why.Limit n) × (AIG_LIMIT < n)
 IsWrong any_count n cause = ⊥
 IsWrong latch_count n cause = (cause ≡ why.Latches) × (n ≢ 0)
 IsWrong further_count n cause = (cause ≡ why.Extended) × (n ≢ 0)
@@ -142,7 +143,7 @@ pub record BreaksSymbols (inputs outputs : ℕ) (bytes rest : List ℕ) (offset 
 pub record BinaryFront (inputs outputs ands : ℕ) (literals : List ℕ) (xs : List And) (bytes rest : List ℕ) : Type 0 where
   pub head : List ℕ
   pub head_line : IsHeadLine form.Binary (inputs + ands) inputs outputs ands head
-  pub limit : inputs + ands ≤ 1000000
+  pub limit : inputs + ands ≤ AIG_LIMIT
   pub lines : List (List ℕ)
   pub texts : List (List ℕ)
   pub between : List ℕ
@@ -191,7 +192,7 @@ abbrev pub BreaksHead : Form → List ℕ → ℕ → AigerWhy → Type 0
 BreaksHead form bytes offset cause =
     ((cause ≡ why.Header) × (offset ≡ 0) × ¬ HasHead form bytes)
     ⊎ (((rest : List ℕ) × (at : ℕ) × HasHead form bytes × (bytes ≡ word_of form ++ rest) × BreaksFields (head_kinds (spaces_in bytes - 5)) rest at cause × (offset ≡ 4 + at))
-    ⊎ ((variables inputs outputs ands : ℕ) × (line rest : List ℕ) × IsHeadLine form variables inputs outputs ands line × AreLines (line ∷ []) bytes rest × (variables ≤ 1000000)
+    ⊎ ((variables inputs outputs ands : ℕ) × (line rest : List ℕ) × IsHeadLine form variables inputs outputs ands line × AreLines (line ∷ []) bytes rest × (variables ≤ AIG_LIMIT)
     × ¬ FitsForm form variables inputs ands × (cause ≡ why.Header) × (offset ≡ 0)))
 
 -- ---- the ASCII form
@@ -200,7 +201,7 @@ BreaksHead form bytes offset cause =
 pub record AsciiFront (top inputs outputs ands : ℕ) (literals uses : List ℕ) (xs : List And) (bytes rest : List ℕ) : Type 0 where
   pub head : List ℕ
   pub head_line : IsHeadLine form.Ascii top inputs outputs ands head
-  pub limit : top ≤ 1000000
+  pub limit : top ≤ AIG_LIMIT
   pub room : inputs + ands ≤ top
   pub in_texts : List (List ℕ)
   pub out_texts : List (List ℕ)
@@ -294,7 +295,7 @@ abbrev pub BreaksInRing : List ℕ → ℕ → AigerWhy → Type 0
 BreaksInRing bytes offset cause =
     (top inputs outputs ands : ℕ) × (literals uses here ring : List ℕ) × (xs : List And) × HasAllLines top inputs outputs ands literals uses xs bytes
     × AreDefined (defined_by literals xs) uses × AreDefinedAnds (defined_by literals xs) xs
-    × AsciiFront top inputs outputs ands literals uses [] bytes here × (offset + length here ≡ length bytes) × (cause ≡ why.Cycle ring) × IsRing xs ring
+    × AsciiFront top inputs outputs ands literals uses [] bytes here × (offset + length here ≡ length bytes) × (cause ≡ why.Cycle ring) × IsRingOfAnds xs ring
 
 -- ---- the whole file
 
@@ -314,11 +315,11 @@ Breaks bytes offset cause = (is_ascii bytes ≡ true → BreaksAscii bytes offse
 
 -- a fault is want of memory, or the file breaks at its offset for its cause
 abbrev pub FaultsBreak : Type 0
-FaultsBreak = (bytes : List ℕ) (fault : AigerFault) → IsFault bytes fault → (fault.why ≡ why.Memory) ⊎ Breaks bytes fault.offset fault.why
+FaultsBreak = (bytes : List ℕ) (fault : AigerFault) → IsFileFault bytes fault → (fault.why ≡ why.Memory) ⊎ Breaks bytes fault.offset fault.why
 
 -- where a file breaks for a cause, that is its fault, and no want of memory
 abbrev pub BreaksAreFaults : Type 0
-BreaksAreFaults = (bytes : List ℕ) (offset : ℕ) (cause : AigerWhy) → Breaks bytes offset cause → (cause ≢ why.Memory) × IsFault bytes (record { offset = offset; why = cause })
+BreaksAreFaults = (bytes : List ℕ) (offset : ℕ) (cause : AigerWhy) → Breaks bytes offset cause → (cause ≢ why.Memory) × IsFileFault bytes (record { offset = offset; why = cause })
 
 -- one cause, or a ring each, of which a file may have several
 abbrev pub IsSameCause : AigerWhy → AigerWhy → Type 0

@@ -23,5 +23,5 @@ abbrev pub ReadsAs : List ℕ → Aig → Type 0
 ReadsAs bytes aig = graph_at bytes ≡ Ok aig
 
 -- want of memory, or the first fault of the bytes
-abbrev pub IsRefusal : List ℕ → AigerFault → Type 0
-IsRefusal bytes fault = (fault.why ≡ why.Memory) ⊎ ((stop : Stop) × (graph_at bytes ≡ Err stop) × (fault.why ≡ stop.why) × (fault.offset ≡ length bytes - stop.left))
+abbrev pub IsBinaryFault : List ℕ → AigerFault → Type 0
+IsBinaryFault bytes fault = (fault.why ≡ why.Memory) ⊎ ((stop : Stop) × (graph_at bytes ≡ Err stop) × (fault.why ≡ stop.why) × (fault.offset ≡ length bytes - stop.left))

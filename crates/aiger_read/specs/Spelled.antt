@@ -1,13 +1,14 @@
 -- Files as a writer makes them: a graph, and bytes that spell it.
 use Rattle.std.specs.Prelude.{◌≡◌, ℕ, ◌+◌, ◌-◌, ◌==◌, ◌<◌, ◌≤◌, ◌⊎◌, ◌^◌, false, List, [], ◌∷◌, ◌++◌, length, map, replicate, slice_get, Some}
+use Rattle.rsfq_ids.specs.declared.limits.TheConstants.{AIG_LIMIT}
 use Rattle.std.specs.List.{AllZip, list_any, concat}
 use Rattle.std.specs.Str.{IsUtf8}
 use Rattle.golden_aig.specs.declared.graph.And.{And}
 use Rattle.golden_aig.specs.declared.graph.Aig.{Aig}
 use Rattle.golden_aig.specs.Aig.{IsAig, variables_of}
-use Rattle.and_order.specs.declared.listing.Listing.{Listing}
-use Rattle.and_order.specs.Numbers.{HoldsOnce}
-use Rattle.and_order.specs.Renaming.{Renames, TakesFirst}
+use Rattle.aiger_order.specs.declared.listing.Listing.{Listing}
+use Rattle.aiger_order.specs.Numbers.{HoldsOnce}
+use Rattle.aiger_order.specs.Renaming.{Renames, TakesFirst}
 use Rattle.aiger_parts.specs.declared.header.Form.{Form}
 use Rattle.aiger_parts.specs.declared.header.Form.TheVariants as form
 use Rattle.aiger_parts.specs.Header.{word_of}
@@ -131,7 +132,7 @@ pub record IsAsciiFile (bytes : List ℕ) (aig : Aig) : Type 0 where
   pub inside : (number name : ℕ) → slice_get names number ≡ Some name → name ≤ listing.top
   pub once : HoldsOnce (map (λ one. one.lhs) listing.ands)
   pub room : length listing.inputs + length listing.ands ≤ listing.top
-  pub limit : listing.top ≤ 1000000
+  pub limit : listing.top ≤ AIG_LIMIT
   pub head : List ℕ
   pub inputs : List (List ℕ)
   pub outputs : List (List ℕ)

@@ -2,9 +2,9 @@
 use Rattle.std.specs.Prelude.{◌≡◌, ℕ, ◌-◌, ◌*◌, ◌/◌, ◌==◌, ◌||◌, ◌⊎◌, Bool, List, [], ◌∷◌, ◌++◌, length, map, replicate, None, Result, Ok, Err, if◌then◌else◌}
 use Rattle.golden_aig.specs.declared.graph.And.{And}
 use Rattle.golden_aig.specs.declared.graph.Aig.{Aig}
-use Rattle.and_order.specs.declared.listing.Listing.{Listing}
-use Rattle.and_order.specs.Renaming.{IsRenaming, IsOrdered, HasNoGraph}
-use Rattle.and_order.specs.Ring.{IsRing}
+use Rattle.aiger_order.specs.declared.listing.Listing.{Listing}
+use Rattle.aiger_order.specs.Renaming.{IsRenaming, IsOrdered, HasNoGraph}
+use Rattle.aiger_order.specs.Ring.{IsRingOfAnds}
 use Rattle.aiger_parts.specs.declared.fault.AigerWhy.TheVariants as why
 use Rattle.aiger_parts.specs.declared.fault.AigerFault.{AigerFault}
 use Rattle.aiger_parts.specs.declared.fault.Stop.{Stop}
@@ -70,7 +70,7 @@ ListsInOrder bytes aig = (text : Text) × (text_at bytes ≡ Ok text) × IsOrder
 pub record IsRingFault (count : ℕ) (text : Text) (fault : AigerFault) : Type 0 where
   pub ring : List ℕ
   pub why : fault.why ≡ why.Cycle ring
-  pub around : IsRing (map and_of text.lines) ring
+  pub around : IsRingOfAnds (map and_of text.lines) ring
   pub none : HasNoGraph (listing_of text)
   pub offset : fault.offset ≡ count - text.left
 
@@ -79,7 +79,7 @@ abbrev pub IsOrderRefusal : ℕ → Text → AigerFault → Type 0
 IsOrderRefusal count text fault = (fault.why ≡ why.Memory) ⊎ IsRingFault count text fault
 
 -- want of memory, or the first fault of the text, or ANDs in a ring where there is no other fault
-abbrev pub IsListRefusal : List ℕ → AigerFault → Type 0
-IsListRefusal bytes fault =
+abbrev pub IsAsciiFault : List ℕ → AigerFault → Type 0
+IsAsciiFault bytes fault =
     (fault.why ≡ why.Memory) ⊎ (((stop : Stop) × (text_at bytes ≡ Err stop) × (fault.why ≡ stop.why) × (fault.offset ≡ length bytes - stop.left))
     ⊎ ((text : Text) × (text_at bytes ≡ Ok text) × IsRingFault (length bytes) text fault))

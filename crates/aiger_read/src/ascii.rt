@@ -2,13 +2,13 @@
 
 ghost use Rattle.std.specs.Prelude.{◌<◌, ◌^◌, length, IfOk, IfErr};
 ghost use Rattle.golden_aig.specs.Aig.{IsAig};
-ghost use Rattle.and_order.specs.Listing.{IsListing};
-ghost use Rattle.and_order.specs.Renaming.{IsRenaming, IsOrdered};
-ghost use Rattle.aiger_read.specs.Text.{listing_of, ListsAs, ListsInOrder, IsOrderRefusal, IsListRefusal};
+ghost use Rattle.aiger_order.specs.Listing.{IsListing};
+ghost use Rattle.aiger_order.specs.Renaming.{IsRenaming, IsOrdered};
+ghost use Rattle.aiger_read.specs.Text.{listing_of, ListsAs, ListsInOrder, IsOrderRefusal, IsAsciiFault};
 
 use crate::text::{Text, make_listing, take_text};
+use aiger_order::{OrderFault, renumber};
 use aiger_parts::{AigerFault, AigerWhy, ReadStop, Stop, fault_of};
-use and_order::{OrderFault, renumber};
 use golden_aig::Aig;
 use std::alloc::Global;
 
@@ -46,7 +46,7 @@ pub(crate) fn read_ascii(alloc: Global, bytes: &[u8]) -> Result<Aig, AigerFault>
     ensures lists { IfOk result (ListsAs bytes.now) }
     ensures order { IfOk result (ListsInOrder bytes.now) }
     ensures graph { IfOk result IsAig }
-    ensures fault { IfErr result (IsListRefusal bytes.now) }
+    ensures fault { IfErr result (IsAsciiFault bytes.now) }
 {
     match take_text(alloc, bytes) {
         Ok(text) => order_text(alloc, bytes.len(), text),

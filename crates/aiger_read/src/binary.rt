@@ -3,7 +3,7 @@
 ghost use Rattle.std.specs.Prelude.{◌<◌, ◌^◌, length, IfOk, IfErr};
 ghost use Rattle.golden_aig.specs.Aig.{IsAig};
 ghost use Rattle.aiger_parts.specs.Reading.{Gives};
-ghost use Rattle.aiger_read.specs.Graph.{graph_at, ReadsAs, IsRefusal};
+ghost use Rattle.aiger_read.specs.Graph.{graph_at, ReadsAs, IsBinaryFault};
 
 use aiger_parts::{
     AigerFault, Form, ReadStop, fault_of, take_ands, take_header, take_outputs, take_symbols,
@@ -40,7 +40,7 @@ pub(crate) fn read_binary(alloc: Global, bytes: &[u8]) -> Result<Aig, AigerFault
     requires { length bytes.now < 2 ^ 32 }
     ensures reads { IfOk result (λ aig. ReadsAs bytes.now aig) }
     ensures graph { IfOk result (λ aig. IsAig aig) }
-    ensures fault { IfErr result (λ fault. IsRefusal bytes.now fault) }
+    ensures fault { IfErr result (λ fault. IsBinaryFault bytes.now fault) }
 {
     match take_graph(alloc, bytes) {
         Ok(aig) => Ok(aig),

@@ -1,6 +1,7 @@
 //! The literals that a file defines, by its inputs and its ANDs.
 
 ghost use Rattle.std.specs.Prelude.{◌≡◌, ◌<◌, ◌≤◌, ◌/◌, ◌%◌, ◌+◌, ◌++◌, ◌∷◌, [], IfOk, OnOk};
+ghost use Rattle.rsfq_ids.specs.declared.limits.TheConstants.{AIG_LIMIT};
 ghost use Rattle.aiger_parts.specs.Reading.{Gives};
 ghost use Rattle.aiger_read.specs.Lines.{AreMarks, definition_at};
 
@@ -18,7 +19,7 @@ pub(crate) struct Definitions {
 impl Definitions {
     /// None.
     pub(crate) fn new(alloc: Global, top: u32) -> Result<Definitions, NoMemory>
-        requires { top < 1000001 }
+        requires { top ≤ AIG_LIMIT }
         ensures marks { IfOk result (λ definitions. AreMarks top definitions.literals definitions.marks.items) }
         ensures none { IfOk result (λ definitions. definitions.literals ≡ []) }
     {
@@ -49,7 +50,7 @@ pub(crate) fn take_definition<'a>(
     definitions: &mut Definitions,
     bytes: &'a [u8],
 ) -> Result<(u32, &'a [u8]), ReadStop>
-    requires small { top < 1000001 }
+    requires small { top ≤ AIG_LIMIT }
     requires marks { AreMarks top definitions.old.literals definitions.old.marks.items }
     ensures is { Gives (λ x. (x.0, x.1.now)) result (definition_at top definitions.old.literals bytes.now) }
     ensures literals { IfOk result (λ x. definitions.new.literals ≡ definitions.old.literals ++ x.0 ∷ []) }

@@ -2,7 +2,7 @@
 
 ghost use Rattle.std.specs.Prelude.{◌<◌, ◌^◌, length, IfOk, IfErr};
 ghost use Rattle.golden_aig.specs.Aig.{IsAig};
-ghost use Rattle.aiger_read.specs.Both.{IsFault, SpellsNone};
+ghost use Rattle.aiger_read.specs.Both.{IsFileFault, SpellsNone};
 ghost use Rattle.aiger_read.specs.Spelled.{SpelledInOrder};
 
 use crate::ascii::read_ascii;
@@ -24,7 +24,7 @@ pub fn read_aiger(alloc: Global, bytes: &[u8]) -> Result<Aig, AigerFault>
     requires { length bytes.now < 2 ^ 32 }
     ensures spelled { IfOk result (SpelledInOrder bytes.now) }
     ensures graph { IfOk result IsAig }
-    ensures fault { IfErr result (IsFault bytes.now) }
+    ensures fault { IfErr result (IsFileFault bytes.now) }
     ensures none { IfErr result (SpellsNone bytes.now) }
 {
     if bytes.starts_with(b"aag ") {

@@ -5,7 +5,7 @@ ghost use Rattle.aiger_read.specs.Broken.{FaultsBreak, BreaksAreFaults, BreakOnc
 ghost use Rattle.aiger_read.specs.Spelled.{SpellOne};
 ghost use Rattle.aiger_read.specs.Spelling.{NumbersAreRead, DifferencesAreRead, AndsAreRead};
 
-use and_order::one_graph_is_ordered;
+use aiger_order::one_graph_is_ordered;
 
 /// A field is read as a number exactly where it is one or more digits of that value, which is below 2^32.
 pub fn numbers_are_read()

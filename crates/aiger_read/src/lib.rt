@@ -17,6 +17,3 @@ pub use laws::{
     ands_are_read, breaks_are_faults, differences_are_read, faults_break, files_are_spelled,
     files_break_once, numbers_are_read, one_graph_is_spelled, spelled_files_break_nowhere,
 };
-
-#[cfg(test)]
-mod tests;

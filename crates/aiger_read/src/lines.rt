@@ -1,6 +1,7 @@
 //! The lines of the ASCII form.
 
-ghost use Rattle.std.specs.Prelude.{◌≡◌, ◌<◌, ◌++◌, ◌∷◌, [], OnOk, IfOk};
+ghost use Rattle.std.specs.Prelude.{◌≡◌, ◌<◌, ◌++◌, ◌∷◌, [], OnOk, IfOk, ◌≤◌};
+ghost use Rattle.rsfq_ids.specs.declared.limits.TheConstants.{AIG_LIMIT};
 ghost use Rattle.aiger_parts.specs.Reading.{Gives};
 ghost use Rattle.aiger_read.specs.Lines.{AreMarks, lhs_of, start_at, use_at, gap_at, input_at, output_at, and_line_at, more_at};
 
@@ -40,7 +41,7 @@ fn start_line(bytes: &[u8]) -> Result<&[u8], ReadStop>
 /// A literal that is used here, at most `2 * top + 1`.
 #[tactic(auto, unfolding(crate::specs::Lines::use_at))]
 fn take_use(top: u32, bytes: &[u8]) -> Result<(Used, &[u8]), ReadStop>
-    requires { top < 1000001 }
+    requires { top ≤ AIG_LIMIT }
     ensures { Gives (λ x. (x.0, x.1.now)) result (use_at top bytes.now) }
 {
     let (literal, rest) = take_number(bytes)?;
@@ -77,7 +78,7 @@ fn take_input<'a>(
     definitions: &mut Definitions,
     bytes: &'a [u8],
 ) -> Result<(u32, &'a [u8]), ReadStop>
-    requires small { top < 1000001 }
+    requires small { top ≤ AIG_LIMIT }
     requires marks { AreMarks top definitions.old.literals definitions.old.marks.items }
     ensures is { Gives (λ x. (x.0, x.1.now)) result (input_at top definitions.old.literals bytes.now) }
     ensures literals { IfOk result (λ x. definitions.new.literals ≡ definitions.old.literals ++ x.0 ∷ []) }
@@ -91,7 +92,7 @@ fn take_input<'a>(
 
 /// The line of an output.
 fn take_output(top: u32, bytes: &[u8]) -> Result<(Used, &[u8]), ReadStop>
-    requires { top < 1000001 }
+    requires { top ≤ AIG_LIMIT }
     ensures { Gives (λ x. (x.0, x.1.now)) result (output_at top bytes.now) }
 {
     let (literal, behind) = take_literal(2 * top + 1, bytes)?;
@@ -109,7 +110,7 @@ fn take_and_line<'a>(
     definitions: &mut Definitions,
     bytes: &'a [u8],
 ) -> Result<(Line, &'a [u8]), ReadStop>
-    requires small { top < 1000001 }
+    requires small { top ≤ AIG_LIMIT }
     requires marks { AreMarks top definitions.old.literals definitions.old.marks.items }
     ensures is { Gives (λ x. (x.0, x.1.now)) result (and_line_at top definitions.old.literals bytes.now) }
     ensures literals { IfOk result (λ x. definitions.new.literals ≡ definitions.old.literals ++ x.0.lhs ∷ []) }
@@ -132,7 +133,7 @@ pub(crate) fn take_inputs<'a>(
     definitions: &mut Definitions,
     bytes: &'a [u8],
 ) -> Result<&'a [u8], ReadStop>
-    requires small { top < 1000001 }
+    requires small { top ≤ AIG_LIMIT }
     requires marks { AreMarks top definitions.old.literals definitions.old.marks.items }
     ensures is { Gives (λ x. (definitions.new.literals, x.now)) result (more_at (input_at top) count definitions.old.literals bytes.now) }
     ensures marks { OnOk result (AreMarks top definitions.new.literals definitions.new.marks.items) }
@@ -152,7 +153,7 @@ pub(crate) fn take_output_lines(
     count: u32,
     bytes: &[u8],
 ) -> Result<(List<Used>, &[u8]), ReadStop>
-    requires { top < 1000001 }
+    requires { top ≤ AIG_LIMIT }
     ensures { Gives (λ x. (x.0, x.1.now)) result (more_at (λ front. output_at top) count [] bytes.now) }
 {
     let mut outputs = List::new(alloc);
@@ -173,7 +174,7 @@ pub(crate) fn take_and_lines<'a>(
     definitions: &mut Definitions,
     bytes: &'a [u8],
 ) -> Result<(List<Line>, &'a [u8]), ReadStop>
-    requires small { top < 1000001 }
+    requires small { top ≤ AIG_LIMIT }
     requires marks { AreMarks top definitions.old.literals definitions.old.marks.items }
     ensures is { Gives (λ x. (x.0, x.1.now)) result (more_at (λ front. and_line_at top (definitions.old.literals ++ lhs_of front)) count [] bytes.now) }
     ensures literals { IfOk result (λ x. definitions.new.literals ≡ definitions.old.literals ++ lhs_of x.0) }

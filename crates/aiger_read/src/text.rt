@@ -9,8 +9,8 @@ ghost use Rattle.aiger_read.specs.Text.{use_known_at, known_at, uses_of, text_at
 
 use crate::definitions::Definitions;
 use crate::lines::{Line, Used, take_and_lines, take_inputs, take_output_lines};
+use aiger_order::Listing;
 use aiger_parts::{AigerWhy, Form, ReadStop, Stop, take_header, take_symbols};
-use and_order::Listing;
 use golden_aig::And;
 use rsfq_ids::list::{List, NoMemory};
 use rsfq_ids::name::Name;

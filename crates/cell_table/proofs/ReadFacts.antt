@@ -12,10 +12,10 @@ use Rattle.rsfq_ids.specs.declared.table.CellTable.{CellTable}
 use Rattle.rsfq_ids.specs.declared.table_fault.TableWhy.{TableWhy}
 use Rattle.rsfq_ids.specs.declared.table_fault.TableWhy.TheVariants.{Header, Repeated}
 use Rattle.rsfq_ids.specs.WellFormed.{AreDistinct, IsTable}
-use Rattle.table_fields.specs.Names.{place_of, with_name}
+use Rattle.name_table.specs.Names.{number_of, with_name}
 use Rattle.table_fields.specs.Records.{field, first_of}
 use Rattle.table_fields.proofs.Places.{place_there}
-use Rattle.cell_table.specs.Cells.{AreCellsOf, HasPlainNames, HaveDigits, IsFirstFault, cell_fault, first_names, repeated_fault, row_fault}
+use Rattle.cell_table.specs.Cells.{AreCellsOf, HasPlainNames, HaveDigits, IsFirstCellFault, cell_fault, first_names, repeated_fault, row_fault}
 use Rattle.cell_table.proofs.RowFacts.{any_here, cell_parts, is_row, plain_row, row_digits}
 
 -- what holds of each item and its place, and of one more
@@ -35,19 +35,19 @@ names_more records count less =
     map_more (λ fields. field fields 0) (drop 1 records) count [] within
     ∙ ap (λ fields. first_names records count ++ field fields 0 ∷ []) (get_or-drop 1 records count [] ∙ ap (λ n. get_or records n []) at)
 
-no_place : (names : List (List ℕ)) (name : List ℕ) → place_of names name ≡ None → list_any (bytes_eq name) names ≡ false
+no_place : (names : List (List ℕ)) (name : List ℕ) → number_of names name ≡ None → list_any (bytes_eq name) names ≡ false
 no_place names name none = go (list_any (bytes_eq name) names) refl
   where
     go : (b : Bool) → list_any (bytes_eq name) names ≡ b → list_any (bytes_eq name) names ≡ false
     go false is = is
     go true is =
         let less = place_there (bytes_eq name) names is in
-        let some : place_of names name ≡ Some (position_or_len (bytes_eq name) names) = rw (lt-ltb _ _ less) refl in
+        let some : number_of names name ≡ Some (position_or_len (bytes_eq name) names) = rw (lt-ltb _ _ less) refl in
         let bad : ◌≡◌ {A = Option ℕ} None (Some (position_or_len (bytes_eq name) names)) = sym none ∙ some in
         cc
 
 pub not_repeated : (names : List (List ℕ)) (name : List ℕ) → repeated_fault names name ≡ None → list_any (bytes_eq name) names ≡ false
-not_repeated names name none = no_place names name (go (place_of names name) none)
+not_repeated names name none = no_place names name (go (number_of names name) none)
   where
     go : (o : Option ℕ) → option_map (λ place. Repeated (place + 1)) o ≡ None → o ≡ None
     go None none = refl
@@ -113,10 +113,10 @@ table_digits records table cells k d less =
     row_digits (first_names records k) (get_or records (suc k) []) (get_or table.rows k d) (cells.cells k d less) (cells.passed (suc k) (omega (arith, cells.count)))
 
 -- bytes without a record have no head
-pub no_records : {X : Type 0} (f : X → List (List ℕ)) (xs : List X) → (length xs == 0) ≡ true → IsFirstFault (map f xs) (record { row = 0; why = Header })
+pub no_records : {X : Type 0} (f : X → List (List ℕ)) (xs : List X) → (length xs == 0) ≡ true → IsFirstCellFault (map f xs) (record { row = 0; why = Header })
 unfolding first_of
 no_records f [] none = record { there = omega arith; cause = refl; first = λ row less. absurd (omega arith) }
 no_records f (x ∷ xs) none = let same = eqb-true (length (x ∷ xs)) 0 none in absurd (omega arith)
 
-pub head_refused : (records : List (List (List ℕ))) (why : TableWhy) → row_fault records zero ≡ Some why → IsFirstFault records (record { row = 0; why = why })
+pub head_refused : (records : List (List (List ℕ))) (why : TableWhy) → row_fault records zero ≡ Some why → IsFirstCellFault records (record { row = 0; why = why })
 head_refused records why cause = record { there = omega arith; cause = cause; first = λ row less. absurd (omega arith) }

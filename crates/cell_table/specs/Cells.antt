@@ -10,7 +10,8 @@ use Rattle.rsfq_ids.specs.declared.table.CellTable.{CellTable}
 use Rattle.rsfq_ids.specs.declared.table_fault.TableFault.{TableFault}
 use Rattle.rsfq_ids.specs.declared.table_fault.TableWhy.{TableWhy}
 use Rattle.rsfq_ids.specs.declared.table_fault.TableWhy.TheVariants.{Name, Kind as NoKind, Repeated}
-use Rattle.table_fields.specs.Names.{is_plain_name, place_of}
+use Rattle.table_fields.specs.Names.{is_plain_name}
+use Rattle.name_table.specs.Names.{number_of}
 use Rattle.table_fields.specs.Records.{count_fault, field, first_of, head_fault, text_fault, time_of, unless}
 use Rattle.cell_table.specs.Fields.{function_fault, times_fault, truth_of}
 use Rattle.cell_table.specs.Kinds.{clock_of, kind_of, kind_text, names_in, pins_fault}
@@ -49,7 +50,7 @@ start_fault fields = first_of (
 
 -- an earlier cell has the name; the head is row 0, so cell k, from 0, stands in row k + 1
 abbrev pub repeated_fault : List (List ℕ) → List ℕ → Option TableWhy
-repeated_fault earlier name = option_map (λ place. Repeated (place + 1)) (place_of earlier name)
+repeated_fault earlier name = option_map (λ place. Repeated (place + 1)) (number_of earlier name)
 
 -- The first cause for which a record is no cell, where the cells before it have these names.
 abbrev pub cell_fault : List (List ℕ) → List (List ℕ) → Option TableWhy
@@ -71,7 +72,7 @@ row_fault records zero = head_fault head (slice_index_or records 0 [])
 row_fault records (suc place) = cell_fault (first_names records place) (slice_index_or records (suc place) [])
 
 -- The first row that is refused, and the first cause.
-pub record IsFirstFault (records : List (List (List ℕ))) (fault : TableFault) : Type 0 where
+pub record IsFirstCellFault (records : List (List (List ℕ))) (fault : TableFault) : Type 0 where
   pub there : fault.row < max 1 (length records)
   pub cause : row_fault records fault.row ≡ Some fault.why
   pub first : (row : ℕ) → row < fault.row → row_fault records row ≡ None

@@ -11,12 +11,12 @@ use crate::kind::kind_of;
 use crate::pins::read_pins;
 use crate::times::read_times;
 use csv::ByteRecord;
+use name_table::NameTable;
 use rsfq_ids::name::Name;
 use rsfq_ids::table::{CellRow, Kind};
 use rsfq_ids::table_fault::TableWhy;
 use std::alloc::Global;
 use table_fields::checks::{check_count, check_text};
-use table_fields::name_table::NameTable;
 use table_fields::names::is_plain_name;
 use table_fields::records::{field_at, text_at};
 
@@ -59,7 +59,7 @@ pub(crate) fn read_cell(
     let truth = read_function(kind, pins.inputs.len(), field_at(fields, 5))?;
     let times = read_times(kind, fields)?;
     let name = text_at(fields, 0);
-    if let Some(place) = earlier.place(name) {
+    if let Some(place) = earlier.number(name) {
         return Err(TableWhy::Repeated(place + 1));
     }
     Ok(CellRow {

@@ -6,6 +6,4 @@ mod digits;
 mod kind;
 mod pins;
 pub mod read;
-#[cfg(test)]
-mod tests;
 mod times;

@@ -7,16 +7,16 @@ ghost use Rattle.rsfq_ids.specs.WellFormed.{IsTable};
 ghost use Rattle.rsfq_ids.specs.declared.table.CellRow.{CellRow};
 ghost use Rattle.rsfq_ids.specs.declared.table_fault.TableWhy.{TableWhy};
 ghost use Rattle.table_fields.specs.Records.{head_fault, records_of};
-ghost use Rattle.cell_table.specs.Cells.{AreCellsOf, HasPlainNames, HaveDigits, IsFirstFault, StandsFor, first_names, head, row_fault};
+ghost use Rattle.cell_table.specs.Cells.{AreCellsOf, HasPlainNames, HaveDigits, IsFirstCellFault, StandsFor, first_names, head, row_fault};
 
 use crate::cell::read_cell;
 use csv::ByteRecord;
+use name_table::{NameTable, TextKeyed};
 use rsfq_ids::list::List;
 use rsfq_ids::table::{CellRow, CellTable};
 use rsfq_ids::table_fault::{TableFault, TableWhy};
 use std::alloc::Global;
 use table_fields::checks::check_head;
-use table_fields::name_table::NameTable;
 use table_fields::records::{read_records, text_at};
 
 const NO_MEMORY: TableFault = TableFault {
@@ -38,7 +38,7 @@ fn check_cell_head(fields: &ByteRecord) -> Result<(), TableWhy>
 fn check_start(records: &[ByteRecord]) -> Result<(), TableFault>
     ensures passed { OnOk result (row_fault (map fields_of records.now) zero ≡ None) }
     ensures some { OnOk result (0 < length records.now) }
-    ensures fault { IfErr result (λ fault. fault.why ≢ TableWhy.Memory → IsFirstFault (map fields_of records.now) fault) }
+    ensures fault { IfErr result (λ fault. fault.why ≢ TableWhy.Memory → IsFirstCellFault (map fields_of records.now) fault) }
 {
     if records.is_empty() {
         return Err(TableFault {
@@ -75,14 +75,19 @@ fn add_cell<'a>(
     Ok(())
 }
 
-fn read_rows(alloc: Global, records: &[ByteRecord]) -> Result<CellTable, TableFault>
+/// Reads the rows behind the head, whose names are hashed by these keys.
+fn read_rows(
+    alloc: Global,
+    records: &[ByteRecord],
+    keys: TextKeyed,
+) -> Result<CellTable, TableFault>
     requires some { 0 < length records.now }
     requires few { length records.now < 2 ^ 32 }
     requires head { row_fault (map fields_of records.now) zero ≡ None }
     ensures cells { IfOk result (AreCellsOf (map fields_of records.now)) }
-    ensures fault { IfErr result (λ fault. fault.why ≢ TableWhy.Memory → IsFirstFault (map fields_of records.now) fault) }
+    ensures fault { IfErr result (λ fault. fault.why ≢ TableWhy.Memory → IsFirstCellFault (map fields_of records.now) fault) }
 {
-    let mut names = NameTable::new(alloc);
+    let mut names = NameTable::new(alloc, keys);
     let mut rows = List::new(alloc);
     for place in 0..records.len() - 1 {
         match add_cell(alloc, records, place, &mut names, &mut rows) {
@@ -108,12 +113,12 @@ pub fn read_cells(alloc: Global, bytes: &[u8]) -> Result<CellTable, TableFault>
     ensures well_formed { IfOk result IsTable }
     ensures plain { IfOk result (λ table. All HasPlainNames table.rows) }
     ensures digits { IfOk result (HaveDigits (records_of bytes.now)) }
-    ensures fault { IfErr result (λ fault. fault.why ≢ TableWhy.Memory → IsFirstFault (records_of bytes.now) fault) }
+    ensures fault { IfErr result (λ fault. fault.why ≢ TableWhy.Memory → IsFirstCellFault (records_of bytes.now) fault) }
     ensures few_refused { IfErr result (λ fault. fault.why ≢ TableWhy.Memory → length (records_of bytes.now) < 2 ^ 32) }
 {
     let Ok(records) = read_records(alloc, bytes) else {
         return Err(NO_MEMORY);
     };
     check_start(&records)?;
-    read_rows(alloc, &records)
+    read_rows(alloc, &records, TextKeyed::of(bytes))
 }

@@ -7,7 +7,8 @@ use Rattle.std.specs.Str.Parse.{digits_value}
 use Rattle.std.proofs.lemmas.Bool.{cases_Bool, eq-eqb}
 use Rattle.std.proofs.lemmas.Bool.Decides.{leb_tells, eqb_tells}
 use Rattle.dimacs_text.specs.Parts.{is_blank}
-use Rattle.dimacs_text.specs.Number.{is_numeral, number_up_to, sized, signed_of, literal_of}
+use Rattle.decimal_text.specs.Number.{is_numeral, number_up_to}
+use Rattle.dimacs_text.specs.Number.{sized, signed_of, literal_of}
 use Rattle.dimacs_text.specs.Spelled.{WritesNumber}
 use Rattle.dimacs_text.specs.declared.number.Signed.{Signed}
 use Rattle.dimacs_text.proofs.Cases.{none_some, same_some, and_true}

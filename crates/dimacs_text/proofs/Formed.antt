@@ -1,5 +1,6 @@
 -- What is read is a well-formed formula.
 use Rattle.std.proofs.Common.{◌≡◌, ◌<◌, ◌≤◌, ◌*◌, ℕ, Bool, true, false, zero, suc, refl, sym, subst, arith, List, [], ◌∷◌, length, get_or, inl, inr, Option, Some, None, Result, Ok, Err}
+use Rattle.rsfq_ids.specs.declared.limits.TheConstants.{FORMULA_LIMIT}
 use Rattle.std.specs.Prelude.{◌==◌, ◌&&◌, ◌||◌, not, ◌≢◌, cond}
 use Rattle.std.specs.List.{All, AllPairs, list_any}
 use Rattle.std.proofs.lemmas.Bool.{cases_Bool, eq-eqb}
@@ -106,7 +107,7 @@ lines_formed vars said next [] formed is = subst (IsFormed vars) (same_ok _ _ is
 lines_formed vars said next (l ∷ ls) formed is =
     step_formed vars next (λ n. after_lines vars n ls) (after_line vars said l) (λ s e. line_formed vars said s l formed e) (λ s f e. lines_formed vars s next ls f e) is
 
-end_formed : (len : ℕ) (head : Head) (said : Said) (cnf : Cnf) → head.vars ≤ 2147483647 → head.clauses ≤ 2147483647 → IsFormed head.vars said → at_end len head said ≡ Ok cnf → IsFormula cnf
+end_formed : (len : ℕ) (head : Head) (said : Said) (cnf : Cnf) → head.vars ≤ FORMULA_LIMIT → head.clauses ≤ FORMULA_LIMIT → IsFormed head.vars said → at_end len head said ≡ Ok cnf → IsFormula cnf
 end_formed len head said cnf vars clauses formed is = elim (cases_Bool (not (is_empty said.pending))) [
   | inl e ↦ absurd (no_ok _ _ (rw e at is))
   | inr e ↦ elim (eqb_tells (length said.closed) head.clauses) [
@@ -117,13 +118,13 @@ end_formed len head said cnf vars clauses formed is = elim (cases_Bool (not (is_
   ]
 ]
 
-ended_formed : (len : ℕ) (head : Head) (cnf : Cnf) (r : Result Said TextFault) → head.vars ≤ 2147483647 → head.clauses ≤ 2147483647 → ((s : Said) → r ≡ Ok s → IsFormed head.vars s)
+ended_formed : (len : ℕ) (head : Head) (cnf : Cnf) (r : Result Said TextFault) → head.vars ≤ FORMULA_LIMIT → head.clauses ≤ FORMULA_LIMIT → ((s : Said) → r ≡ Ok s → IsFormed head.vars s)
     → unless_fault (at_end len head) r ≡ Ok cnf → IsFormula cnf
 ended_formed len head cnf (Ok s) vars clauses formed is = end_formed len head s cnf vars clauses (formed s refl) is
 ended_formed len head cnf (Err f) vars clauses formed is = absurd (no_ok _ _ is)
 
 -- what follows a head whose numbers are small
-pub formed : (len : ℕ) (head : Head) (rest : List Part) (cnf : Cnf) → head.vars ≤ 2147483647 → head.clauses ≤ 2147483647 → after_head len rest head ≡ Ok cnf → IsFormula cnf
+pub formed : (len : ℕ) (head : Head) (rest : List Part) (cnf : Cnf) → head.vars ≤ FORMULA_LIMIT → head.clauses ≤ FORMULA_LIMIT → after_head len rest head ≡ Ok cnf → IsFormula cnf
 formed len head rest cnf vars clauses is =
     ended_formed len head cnf (after_lines head.vars nothing_said rest) vars clauses
     (λ s e. lines_formed head.vars nothing_said s rest (record { lits = All-nil (IsOver head.vars); once = All-nil IsOnce; pending = All-nil (λ l. l < 2 * head.vars) }) e) is

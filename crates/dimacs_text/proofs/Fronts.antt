@@ -1,5 +1,6 @@
 -- Bytes that stay at the front.
-use Rattle.std.proofs.Common.{◌≡◌, ℕ, refl, ap₂, subst, List, [], ◌∷◌, ◌++◌, length, take, Result, Ok, Err}
+use Rattle.std.proofs.Math.Seq.{take-length}
+use Rattle.std.proofs.Common.{◌≡◌, ◌∙◌, ℕ, refl, ap, ap₂, subst, List, [], ◌∷◌, ◌++◌, length, take, Result, Ok, Err}
 use Rattle.std.specs.Prelude.{OnErr}
 
 same_head : (x y : ℕ) (xs ys : List ℕ) → x ∷ xs ≡ y ∷ ys → x ≡ y
@@ -24,3 +25,7 @@ still_kept old extra mid new is kept = front_kept old extra new (subst (λ (byte
 pub on_err : {T E : Type 0} (r : Result T E) (P : Type 0) → P → OnErr r P
 on_err (Ok x) P p = tt
 on_err (Err e) P p = p
+
+-- what is unchanged is kept
+pub unchanged_kept : (old new : List ℕ) → new ≡ old → take (length old) new ≡ old
+unchanged_kept old new is = ap (take (length old)) is ∙ take-length old

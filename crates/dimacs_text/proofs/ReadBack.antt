@@ -1,5 +1,6 @@
 -- The text of a formula says the formula.
 use Rattle.std.proofs.Common.{◌≡◌, ◌∙◌, ◌<◌, ◌≤◌, ◌+◌, ◌*◌, ℕ, Bool, true, false, zero, suc, refl, sym, ap, subst, arith, drop, List, [], ◌∷◌, ◌++◌, length, get_or, Some, Result, Ok, decimal, append_assoc, append-nil, length-append, eq-eqb}
+use Rattle.rsfq_ids.specs.declared.limits.TheConstants.{FORMULA_LIMIT}
 use Rattle.std.specs.Prelude.{◌==◌, ◌≢◌, option_map}
 use Rattle.std.specs.List.{All, AllPairs, list_any, flat_map}
 use Rattle.std.specs.Option.{option_and_then}
@@ -8,7 +9,8 @@ use Rattle.std.proofs.lemmas.List.Folds.{list_any-append}
 use Rattle.rsfq_ids.specs.Formula.{Clause, IsOver, IsFormula}
 use Rattle.rsfq_ids.specs.declared.circuit.Cnf.{Cnf}
 use Rattle.dimacs_text.specs.Parts.{Part, front, words, lines, is_newline, is_blank, is_space}
-use Rattle.dimacs_text.specs.Number.{number_up_to, signed_of, literal_of}
+use Rattle.decimal_text.specs.Number.{number_up_to}
+use Rattle.dimacs_text.specs.Number.{signed_of, literal_of}
 use Rattle.dimacs_text.specs.Text.{literal_text, spaced_literal, clause_line, dimacs_of}
 use Rattle.dimacs_text.specs.Reading.{Said, with_literals, once, after_word, after_words, after_line, after_lines, unless_fault, at_end, count_of, sizes_of, head_of, is_comment, without_comments, from_head, with_head, reading}
 use Rattle.dimacs_text.specs.declared.head.Head.{Head}
@@ -19,7 +21,7 @@ use Rattle.dimacs_text.proofs.Written.{Separates, newlines, blanks, spaces, apar
 
 -- ---- literals of a clause
 
-clause_words : (vars : ℕ) (closed : List Clause) (pending : Clause) (at : ℕ) (clause : Clause) → vars ≤ 2147483647 → IsOver vars clause
+clause_words : (vars : ℕ) (closed : List Clause) (pending : Clause) (at : ℕ) (clause : Clause) → vars ≤ FORMULA_LIMIT → IsOver vars clause
     → after_words vars (record { closed = closed; pending = pending }) (words is_blank at (flat_map spaced_literal clause ++ 48 ∷ []))
     ≡ Ok (record { closed = closed ++ once (pending ++ clause) ∷ []; pending = [] })
 clause_words vars closed pending at [] small over =
@@ -68,7 +70,7 @@ all_stay clause (lit ∷ lits) pairs =
 
 -- ---- lines
 
-free_line : (p : ℕ → Bool) → Separates p → p 32 ≡ false → (vars : ℕ) (clause : Clause) → vars ≤ 2147483647 → IsOver vars clause → list_any p (flat_map spaced_literal clause ++ 48 ∷ []) ≡ false
+free_line : (p : ℕ → Bool) → Separates p → p 32 ≡ false → (vars : ℕ) (clause : Clause) → vars ≤ FORMULA_LIMIT → IsOver vars clause → list_any p (flat_map spaced_literal clause ++ 48 ∷ []) ≡ false
 free_line p apart space vars clause small over =
     let zero_free : p 48 ≡ false = apart.digit 48 (omega arith) (omega arith) in
     rw (list_any-append p (flat_map spaced_literal clause) (48 ∷ []), literals_free p apart space clause (small_literals vars clause (omega arith) over), zero_free) refl
@@ -84,7 +86,7 @@ stays : (vars : ℕ) (closed : List Clause) (line : Part) → is_comment line.by
     → after_line vars (record { closed = closed; pending = [] }) line ≡ after_words vars (record { closed = closed; pending = [] }) (words is_blank line.start line.bytes)
 stays vars closed line other = rw other refl
 
-clause_lines : (vars : ℕ) (closed : List Clause) (at : ℕ) (clauses : List Clause) → vars ≤ 2147483647 → All (IsOver vars) clauses → All (λ clause. AllPairs (λ one other. one ≢ other) clause) clauses
+clause_lines : (vars : ℕ) (closed : List Clause) (at : ℕ) (clauses : List Clause) → vars ≤ FORMULA_LIMIT → All (IsOver vars) clauses → All (λ clause. AllPairs (λ one other. one ≢ other) clause) clauses
     → after_lines vars (record { closed = closed; pending = [] }) (lines at (flat_map clause_line clauses)) ≡ Ok (record { closed = closed ++ clauses; pending = [] })
 clause_lines vars closed at [] small over pairs = ap (λ (c : List Clause). let r : Result Said TextFault = Ok (record { closed = c; pending = [] }) in r) (sym (append-nil closed))
 clause_lines vars closed at (clause ∷ clauses) small over pairs =
@@ -118,18 +120,18 @@ rest_of (x ∷ xs) ys = rest_of xs ys
 abbrev head_words : ℕ → ℕ → List ℕ
 head_words vars clauses = 112 ∷ 32 ∷ 99 ∷ 110 ∷ 102 ∷ 32 ∷ (decimal vars ++ 32 ∷ decimal clauses)
 
-sizes_read : (vars clauses : ℕ) → vars ≤ 2147483647 → clauses ≤ 2147483647 → sizes_of (decimal vars ++ 32 ∷ decimal clauses) ≡ Some (record { vars = vars; clauses = clauses })
+sizes_read : (vars clauses : ℕ) → vars ≤ FORMULA_LIMIT → clauses ≤ FORMULA_LIMIT → sizes_of (decimal vars ++ 32 ∷ decimal clauses) ≡ Some (record { vars = vars; clauses = clauses })
 sizes_read vars clauses small few =
     let first : front is_space (decimal vars ++ 32 ∷ decimal clauses) ≡ decimal vars = front_is is_space (decimal vars) 32 (decimal clauses) (decimal_free is_space spaces vars (omega arith)) refl in
     let behind : drop (length (decimal vars)) (decimal vars ++ 32 ∷ decimal clauses) ≡ 32 ∷ decimal clauses = rest_of (decimal vars) (32 ∷ decimal clauses) in
-    let one : number_up_to 2147483647 (decimal vars) ≡ Some vars = number_read 2147483647 vars small (omega arith) in
-    let two : number_up_to 2147483647 (decimal clauses) ≡ Some clauses = number_read 2147483647 clauses few (omega arith) in
-    ap (λ (f : List ℕ). option_and_then (λ (v : ℕ). option_map (as_head v) (count_of (drop (length f) (decimal vars ++ 32 ∷ decimal clauses)))) (number_up_to 2147483647 f)) first
-    ∙ ap (λ (r : List ℕ). option_and_then (λ (v : ℕ). option_map (as_head v) (count_of r)) (number_up_to 2147483647 (decimal vars))) behind
-    ∙ ap (option_and_then (λ (v : ℕ). option_map (as_head v) (number_up_to 2147483647 (decimal clauses)))) one
+    let one : number_up_to FORMULA_LIMIT (decimal vars) ≡ Some vars = number_read FORMULA_LIMIT vars small (omega arith) in
+    let two : number_up_to FORMULA_LIMIT (decimal clauses) ≡ Some clauses = number_read FORMULA_LIMIT clauses few (omega arith) in
+    ap (λ (f : List ℕ). option_and_then (λ (v : ℕ). option_map (as_head v) (count_of (drop (length f) (decimal vars ++ 32 ∷ decimal clauses)))) (number_up_to FORMULA_LIMIT f)) first
+    ∙ ap (λ (r : List ℕ). option_and_then (λ (v : ℕ). option_map (as_head v) (count_of r)) (number_up_to FORMULA_LIMIT (decimal vars))) behind
+    ∙ ap (option_and_then (λ (v : ℕ). option_map (as_head v) (number_up_to FORMULA_LIMIT (decimal clauses)))) one
     ∙ ap (option_map (as_head vars)) two
 
-free_head : (vars clauses : ℕ) → vars ≤ 2147483647 → clauses ≤ 2147483647 → list_any is_newline (head_words vars clauses) ≡ false
+free_head : (vars clauses : ℕ) → vars ≤ FORMULA_LIMIT → clauses ≤ FORMULA_LIMIT → list_any is_newline (head_words vars clauses) ≡ false
 free_head vars clauses small few =
     let one = decimal_free is_newline newlines vars (omega arith) in
     let two = decimal_free is_newline newlines clauses (omega arith) in
@@ -140,8 +142,8 @@ ended len head clauses is = rw (eq-eqb (length clauses) head.clauses is) refl
 
 pub formula_read : (cnf : Cnf) → IsFormula cnf → reading (dimacs_of cnf) ≡ Ok cnf
 formula_read cnf formula =
-    let small : cnf.vars ≤ 2147483647 = formula.vars in
-    let few : length cnf.clauses ≤ 2147483647 = formula.count in
+    let small : cnf.vars ≤ FORMULA_LIMIT = formula.vars in
+    let few : length cnf.clauses ≤ FORMULA_LIMIT = formula.count in
     let shape : dimacs_of cnf ≡ head_words cnf.vars (length cnf.clauses) ++ 10 ∷ flat_map clause_line cnf.clauses = simp append_assoc in
     let split : lines 0 (dimacs_of cnf) ≡ record { start = 0; bytes = head_words cnf.vars (length cnf.clauses) } ∷ lines (0 + suc (length (head_words cnf.vars (length cnf.clauses)))) (flat_map clause_line cnf.clauses) =
     ap (lines 0) shape ∙ part_first is_newline 0 (head_words cnf.vars (length cnf.clauses)) 10 (flat_map clause_line cnf.clauses) (free_head cnf.vars (length cnf.clauses) small few) refl in

@@ -1,5 +1,6 @@
 -- A line is a head exactly where it is spelled as one.
 use Rattle.std.proofs.Common.{◌≡◌, ◌∙◌, ◌≤◌, ℕ, Bool, true, false, refl, sym, ap, subst, take, drop, List, [], ◌∷◌, ◌++◌, length, inl, inr, Option, Some, None}
+use Rattle.rsfq_ids.specs.declared.limits.TheConstants.{FORMULA_LIMIT}
 use Rattle.std.specs.Prelude.{◌==◌, ◌||◌, codes, option_map}
 use Rattle.std.specs.List.{list_any}
 use Rattle.std.specs.Option.{option_and_then}
@@ -9,7 +10,7 @@ use Rattle.std.proofs.lemmas.List.{take-append-drop}
 use Rattle.std.proofs.lemmas.List.Folds.{list_any-append}
 use Rattle.std.proofs.lemmas.Slice.Eq.{bytes_eq-Decides}
 use Rattle.dimacs_text.specs.Parts.{front, is_space, is_blank, is_newline}
-use Rattle.dimacs_text.specs.Number.{number_up_to}
+use Rattle.decimal_text.specs.Number.{number_up_to}
 use Rattle.dimacs_text.specs.Reading.{count_of, sizes_of, head_of, is_comment}
 use Rattle.dimacs_text.specs.Spelled.{WritesNumber, IsHeadLine}
 use Rattle.dimacs_text.specs.declared.head.Head.{Head}
@@ -33,16 +34,16 @@ no_space (x ∷ xs) free =
     let other : (x == 32) ≡ false = or_left (x == 32) (x == 10) c in
     rw other (no_space xs (or_right (is_blank x) (list_any is_blank xs) free))
 
-sizes_read : (first second : List ℕ) (vars clauses : ℕ) → list_any is_space first ≡ false → number_up_to 2147483647 first ≡ Some vars → number_up_to 2147483647 second ≡ Some clauses
+sizes_read : (first second : List ℕ) (vars clauses : ℕ) → list_any is_space first ≡ false → number_up_to FORMULA_LIMIT first ≡ Some vars → number_up_to FORMULA_LIMIT second ≡ Some clauses
     → sizes_of (first ++ 32 ∷ second) ≡ Some (as_head vars clauses)
 sizes_read first second vars clauses free one two =
-    ap (λ (f : List ℕ). option_and_then (λ (v : ℕ). option_map (as_head v) (count_of (drop (length f) (first ++ 32 ∷ second)))) (number_up_to 2147483647 f)) (front_is is_space first 32 second free refl)
-    ∙ ap (λ (r : List ℕ). option_and_then (λ (v : ℕ). option_map (as_head v) (count_of r)) (number_up_to 2147483647 first)) (rest_of first (32 ∷ second))
-    ∙ ap (option_and_then (λ (v : ℕ). option_map (as_head v) (number_up_to 2147483647 second))) one
+    ap (λ (f : List ℕ). option_and_then (λ (v : ℕ). option_map (as_head v) (count_of (drop (length f) (first ++ 32 ∷ second)))) (number_up_to FORMULA_LIMIT f)) (front_is is_space first 32 second free refl)
+    ∙ ap (λ (r : List ℕ). option_and_then (λ (v : ℕ). option_map (as_head v) (count_of r)) (number_up_to FORMULA_LIMIT first)) (rest_of first (32 ∷ second))
+    ∙ ap (option_and_then (λ (v : ℕ). option_map (as_head v) (number_up_to FORMULA_LIMIT second))) one
     ∙ ap (option_map (as_head vars)) two
 
-plain : (field : List ℕ) (n : ℕ) → WritesNumber field false n → n ≤ 2147483647 → number_up_to 2147483647 field ≡ Some n
-plain field n writes small = ap (number_up_to 2147483647) writes.field_is ∙ up_to_back 2147483647 writes.digits n writes.numeral writes.value small
+plain : (field : List ℕ) (n : ℕ) → WritesNumber field false n → n ≤ FORMULA_LIMIT → number_up_to FORMULA_LIMIT field ≡ Some n
+plain field n writes small = ap (number_up_to FORMULA_LIMIT) writes.field_is ∙ up_to_back FORMULA_LIMIT writes.digits n writes.numeral writes.value small
 
 abbrev letters : List ℕ → List ℕ
 letters sizes = 112 ∷ 32 ∷ 99 ∷ 110 ∷ 102 ∷ 32 ∷ sizes
@@ -80,11 +81,11 @@ record IsSizes (bytes : List ℕ) (head : Head) : Type 0 where
   pub first : List ℕ
   pub second : List ℕ
   pub bytes_are : bytes ≡ first ++ 32 ∷ second
-  pub one : number_up_to 2147483647 first ≡ Some head.vars
-  pub two : number_up_to 2147483647 second ≡ Some head.clauses
+  pub one : number_up_to FORMULA_LIMIT first ≡ Some head.vars
+  pub two : number_up_to FORMULA_LIMIT second ≡ Some head.clauses
 
-counted : (bytes : List ℕ) (vars : ℕ) (second : List ℕ) (space : ℕ) (o : Option ℕ) (head : Head) → number_up_to 2147483647 (front is_space bytes) ≡ Some vars → drop (length (front is_space bytes)) bytes ≡ space ∷ second
-    → number_up_to 2147483647 second ≡ o → option_map (as_head vars) o ≡ Some head → IsSizes bytes head
+counted : (bytes : List ℕ) (vars : ℕ) (second : List ℕ) (space : ℕ) (o : Option ℕ) (head : Head) → number_up_to FORMULA_LIMIT (front is_space bytes) ≡ Some vars → drop (length (front is_space bytes)) bytes ≡ space ∷ second
+    → number_up_to FORMULA_LIMIT second ≡ o → option_map (as_head vars) o ≡ Some head → IsSizes bytes head
 counted bytes vars second space None head one rest two is = absurd (none_some head is)
 counted bytes vars second space (Some clauses) head one rest two is =
     let blank : space ≡ 32 = eqb-true space 32 (behind_front is_space bytes space second rest) in
@@ -97,22 +98,22 @@ counted bytes vars second space (Some clauses) head one rest two is =
       two = two;
     })
 
-behind_vars : (bytes : List ℕ) (vars : ℕ) (rest : List ℕ) (head : Head) → number_up_to 2147483647 (front is_space bytes) ≡ Some vars → drop (length (front is_space bytes)) bytes ≡ rest
+behind_vars : (bytes : List ℕ) (vars : ℕ) (rest : List ℕ) (head : Head) → number_up_to FORMULA_LIMIT (front is_space bytes) ≡ Some vars → drop (length (front is_space bytes)) bytes ≡ rest
     → option_map (as_head vars) (count_of rest) ≡ Some head → IsSizes bytes head
 behind_vars bytes vars [] head one rest is = absurd (none_some head is)
-behind_vars bytes vars (space ∷ second) head one rest is = counted bytes vars second space (number_up_to 2147483647 second) head one rest refl is
+behind_vars bytes vars (space ∷ second) head one rest is = counted bytes vars second space (number_up_to FORMULA_LIMIT second) head one rest refl is
 
-with_vars : (bytes : List ℕ) (o : Option ℕ) (head : Head) → number_up_to 2147483647 (front is_space bytes) ≡ o
+with_vars : (bytes : List ℕ) (o : Option ℕ) (head : Head) → number_up_to FORMULA_LIMIT (front is_space bytes) ≡ o
     → option_and_then (λ (v : ℕ). option_map (as_head v) (count_of (drop (length (front is_space bytes)) bytes))) o ≡ Some head → IsSizes bytes head
 with_vars bytes None head one is = absurd (none_some head is)
 with_vars bytes (Some vars) head one is = behind_vars bytes vars (drop (length (front is_space bytes)) bytes) head one refl is
 
 sizes_are : (bytes : List ℕ) (head : Head) → sizes_of bytes ≡ Some head → IsSizes bytes head
-sizes_are bytes head is = with_vars bytes (number_up_to 2147483647 (front is_space bytes)) head refl is
+sizes_are bytes head is = with_vars bytes (number_up_to FORMULA_LIMIT (front is_space bytes)) head refl is
 
-writes_plain : (field : List ℕ) (n : ℕ) → number_up_to 2147483647 field ≡ Some n → WritesNumber field false n
+writes_plain : (field : List ℕ) (n : ℕ) → number_up_to FORMULA_LIMIT field ≡ Some n → WritesNumber field false n
 writes_plain field n is =
-    let of = up_to 2147483647 field n is in
+    let of = up_to FORMULA_LIMIT field n is in
     record { digits = field; field_is = refl; numeral = of.numeral; value = of.value }
 
 pub head_spelled : (line : List ℕ) (head : Head) → head_of line ≡ Some head → IsHeadLine line head.vars head.clauses
@@ -129,7 +130,7 @@ head_spelled line head is = elim (cases_Bool (bytes_eq (take 6 line) (codes "p c
         line_is = line_is;
         first_writes = writes_plain sizes.first head.vars sizes.one;
         second_writes = writes_plain sizes.second head.clauses sizes.two;
-        first_small = (up_to 2147483647 sizes.first head.vars sizes.one).small;
-        second_small = (up_to 2147483647 sizes.second head.clauses sizes.two).small;
+        first_small = (up_to FORMULA_LIMIT sizes.first head.vars sizes.one).small;
+        second_small = (up_to FORMULA_LIMIT sizes.second head.clauses sizes.two).small;
       }
 ]

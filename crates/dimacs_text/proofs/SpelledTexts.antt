@@ -1,5 +1,6 @@
 -- A text says a formula exactly where it spells it.
 use Rattle.std.proofs.Common.{◌≡◌, ◌∙◌, ◌≤◌, ◌+◌, ℕ, true, false, zero, suc, refl, sym, ap, subst, arith, List, [], ◌∷◌, ◌++◌, length, append_assoc, append-nil, inl, inr, Option, Some, None, Result, Ok, Err}
+use Rattle.rsfq_ids.specs.declared.limits.TheConstants.{FORMULA_LIMIT}
 use Rattle.std.specs.Prelude.{not, ◌⊎◌, IfOk, IfErr, ◌≢◌}
 use Rattle.std.specs.List.{list_any, list_all}
 use Rattle.std.proofs.lemmas.Bool.{cases_Bool, eqb-true, eq-eqb}
@@ -82,7 +83,7 @@ read text cnf is =
       other = head_no_comment is.head cnf.vars (length cnf.clauses) is.head_is;
     } in
     let from = opened whole is.comments is.head is.rest opens in
-    let small : cnf.vars ≤ 2147483647 = is.head_is.first_small in
+    let small : cnf.vars ≤ FORMULA_LIMIT = is.head_is.first_small in
     let tail = spelled_tail cnf.vars is.clauses is.behind cnf.clauses is.clauses_are is.behind_is in
     let says : middle cnf.vars (said [] []) (lines (from.0 + length is.head) (10 ∷ is.rest)) ≡ Ok (said cnf.clauses []) =
     ap (λ (l : List ℕ). middle cnf.vars (said [] []) (lines (from.0 + length is.head) l)) is.rest_is ∙ tail_read small [] tail (from.0 + length is.head) in

@@ -1,5 +1,6 @@
 -- What of a text is still to come: words and what parts them, a comment only where no clause is open, and the clauses that they close.
 use Rattle.std.proofs.Common.{◌≡◌, ◌∙◌, ◌<◌, ◌≤◌, ◌+◌, ◌*◌, ◌/◌, ◌%◌, ℕ, Bool, true, false, suc, refl, sym, ap, arith, List, [], ◌∷◌, ◌++◌, length, append_assoc, append-nil, inl, inr, Result, Ok}
+use Rattle.rsfq_ids.specs.declared.limits.TheConstants.{FORMULA_LIMIT}
 use Rattle.std.specs.Prelude.{◌==◌}
 use Rattle.std.specs.List.{list_any}
 use Rattle.std.proofs.lemmas.Bool.Decides.{eqb_tells}
@@ -82,7 +83,7 @@ word_read vars from mid to field b bytes some free blank says reads at =
 abbrev given : Said → Result Said TextFault
 given s = Ok s
 
-pub tail_read : {vars : ℕ} {pending : Clause} {bytes : List ℕ} {clauses : List Clause} → vars ≤ 2147483647 → (closed : List Clause) → Tail vars pending bytes clauses
+pub tail_read : {vars : ℕ} {pending : Clause} {bytes : List ℕ} {clauses : List Clause} → vars ≤ FORMULA_LIMIT → (closed : List Clause) → Tail vars pending bytes clauses
     → Reads vars (said closed pending) bytes (said (closed ++ clauses) [])
 tail_read small closed nothing = λ at. ap (λ (c : List Clause). given (said c [])) (sym (append-nil closed))
 tail_read {vars} {pending} {bytes = _} {clauses} small closed (blank_first {bytes = bytes} b is rest) =

@@ -12,7 +12,8 @@ use Rattle.std.proofs.lemmas.Fmt.{decimal_is_IsNumeral}
 use Rattle.std.proofs.lemmas.Str.Parse.{digit_from_value}
 use Rattle.rsfq_ids.specs.Formula.{IsOver}
 use Rattle.dimacs_text.specs.Parts.{Part, parts, words, with_byte, has_bytes, is_newline, is_blank, is_space}
-use Rattle.dimacs_text.specs.Number.{is_numeral, number_up_to, sized, signed_of, literal_of}
+use Rattle.decimal_text.specs.Number.{is_numeral, number_up_to}
+use Rattle.dimacs_text.specs.Number.{sized, signed_of, literal_of}
 use Rattle.dimacs_text.specs.Text.{literal_text, spaced_literal}
 use Rattle.dimacs_text.specs.declared.number.Signed.{Signed}
 use Rattle.dimacs_text.proofs.WordLemmas.{kept, some_byte}

@@ -3,16 +3,8 @@ use Rattle.std.specs.Prelude.{ℕ, ◌+◌, ◌-◌, ◌*◌, ℤ, pos, neg_ℤ,
 use Rattle.std.specs.List.{list_all}
 use Rattle.std.specs.Char.{is_ascii_digit}
 use Rattle.std.specs.Str.Parse.{digits_value}
+use Rattle.decimal_text.specs.Number.{number_up_to}
 use Rattle.dimacs_text.specs.declared.number.Signed.{Signed}
-
--- one digit or more, and nothing else
-abbrev pub is_numeral : List ℕ → Bool
-is_numeral [] = false
-is_numeral (d ∷ ds) = list_all is_ascii_digit (d ∷ ds)
-
--- the number that digits write, where it is at most so large; leading zeros are fine
-abbrev pub number_up_to : ℕ → List ℕ → Option ℕ
-number_up_to most ds = if is_numeral ds && nat_le (digits_value 10 ds) most then Some (digits_value 10 ds) else None
 
 -- a sign, and digits of a value up to 4,294,967,295
 abbrev pub sized : Bool → List ℕ → Option Signed

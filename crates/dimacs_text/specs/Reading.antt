@@ -3,13 +3,15 @@
 -- The text is its lines. Comments stand before the head, the head is one line, and what follows is clauses: numbers parted by blanks, each
 -- clause ended by a 0, over any number of lines. A line of that part that begins with `c` is a comment too where no clause is open.
 use Rattle.std.specs.Prelude.{ℕ, ◌+◌, ◌-◌, ◌*◌, ◌==◌, ◌&&◌, Bool, true, false, not, if◌then◌else◌, List, [], ◌∷◌, ◌++◌, length, drop, take, Option, Some, None, option_map, Result, Ok, Err, nat_le, nat_lt, ℤ, pos, neg_ℤ, codes}
+use Rattle.rsfq_ids.specs.declared.limits.TheConstants.{FORMULA_LIMIT}
 use Rattle.std.specs.List.{list_any}
 use Rattle.std.specs.Option.{option_and_then}
 use Rattle.std.specs.Str.{bytes_eq}
 use Rattle.rsfq_ids.specs.Formula.{Clause}
 use Rattle.rsfq_ids.specs.declared.circuit.Cnf.{Cnf}
 use Rattle.dimacs_text.specs.Parts.{Part, front, lines, words, is_empty, is_blank, is_space}
-use Rattle.dimacs_text.specs.Number.{number_up_to, signed_of, literal_of, whole_of}
+use Rattle.decimal_text.specs.Number.{number_up_to}
+use Rattle.dimacs_text.specs.Number.{signed_of, literal_of, whole_of}
 use Rattle.dimacs_text.specs.declared.number.Signed.{Signed}
 use Rattle.dimacs_text.specs.declared.head.Head.{Head}
 use Rattle.dimacs_text.specs.declared.fault.TextFault.{TextFault}
@@ -26,13 +28,13 @@ unless_fault next (Err f) = Err f
 -- the number of clauses stands behind one space, up to the line's end
 abbrev pub count_of : List ℕ → Option ℕ
 count_of [] = None
-count_of (space ∷ digits) = number_up_to 2147483647 digits
+count_of (space ∷ digits) = number_up_to FORMULA_LIMIT digits
 
 -- the numbers of variables and of clauses
 abbrev pub sizes_of : List ℕ → Option Head
 sizes_of bytes =
     option_and_then (λ vars. option_map (λ clauses. record { vars = vars; clauses = clauses }) (count_of (drop (length (front is_space bytes)) bytes)))
-    (number_up_to 2147483647 (front is_space bytes))
+    (number_up_to FORMULA_LIMIT (front is_space bytes))
 
 -- the line `p cnf V C`
 unfoldable pub head_of : List ℕ → Option Head

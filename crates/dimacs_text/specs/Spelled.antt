@@ -1,11 +1,12 @@
 -- Texts as a writer makes them: a formula, and bytes that spell it, piece behind piece.
 use Rattle.std.specs.Prelude.{◌≡◌, ℕ, ◌+◌, ◌*◌, ◌/◌, ◌%◌, ◌==◌, ◌<◌, ◌≤◌, ◌&&◌, ◌||◌, Bool, true, false, not, if◌then◌else◌, List, [], ◌∷◌, ◌++◌, length, Ok, codes}
+use Rattle.rsfq_ids.specs.declared.limits.TheConstants.{FORMULA_LIMIT}
 use Rattle.std.specs.List.{AllZip, list_any, list_all, concat, filter}
 use Rattle.std.specs.Str.Parse.{digits_value}
 use Rattle.rsfq_ids.specs.Formula.{Clause}
 use Rattle.rsfq_ids.specs.declared.circuit.Cnf.{Cnf}
 use Rattle.dimacs_text.specs.Parts.{is_newline, is_blank}
-use Rattle.dimacs_text.specs.Number.{is_numeral}
+use Rattle.decimal_text.specs.Number.{is_numeral}
 use Rattle.dimacs_text.specs.Reading.{is_comment, reading}
 
 -- lines, each with a newline behind it
@@ -33,8 +34,8 @@ pub record IsHeadLine (line : List ℕ) (vars clauses : ℕ) : Type 0 where
   pub line_is : line ≡ codes "p cnf " ++ first ++ 32 ∷ second
   pub first_writes : WritesNumber first false vars
   pub second_writes : WritesNumber second false clauses
-  pub first_small : vars ≤ 2147483647
-  pub second_small : clauses ≤ 2147483647
+  pub first_small : vars ≤ FORMULA_LIMIT
+  pub second_small : clauses ≤ FORMULA_LIMIT
 
 -- ---- clauses
 

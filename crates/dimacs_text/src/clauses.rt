@@ -1,5 +1,6 @@
 //! The clauses of a text, word by word.
 ghost use Rattle.std.specs.Prelude.{◌≡◌, ◌≢◌, ◌≤◌, ◌<◌, ◌+◌, ◌*◌, ◌^◌, ◌++◌, ◌∷◌, ◌==◌, [], length, IfOk, IfErr, OnOk, Ok, Err};
+ghost use Rattle.rsfq_ids.specs.declared.limits.TheConstants.{FORMULA_LIMIT, PROOF_FILE_LIMIT};
 ghost use Rattle.std.specs.List.{list_any};
 ghost use Rattle.dimacs_text.specs.Parts.{words, is_blank};
 ghost use Rattle.dimacs_text.specs.Number.{literal_of};
@@ -46,8 +47,8 @@ impl Clauses {
 
     /// Reads a line that begins at a place.
     pub fn read_line(&mut self, vars: u32, line: &[u8], start: usize) -> Result<(), TextFault>
-        requires vars { vars ≤ 2147483647 }
-        requires place { start + length line.now ≤ 2 ^ 28 }
+        requires vars { vars ≤ FORMULA_LIMIT }
+        requires place { start + length line.now ≤ PROOF_FILE_LIMIT }
         ensures ok { OnOk result (after_line vars self.old (record { start = start; bytes = line.now }) ≡ Ok self.new) }
         ensures err { IfErr result (λ f. f.why ≢ TextWhy.Memory → after_line vars self.old (record { start = start; bytes = line.now }) ≡ Err f) }
     {
@@ -59,8 +60,8 @@ impl Clauses {
 
     /// Reads the words of a line that begins at a place.
     fn read_words(&mut self, vars: u32, line: &[u8], start: usize) -> Result<(), TextFault>
-        requires vars { vars ≤ 2147483647 }
-        requires place { start + length line.now ≤ 2 ^ 28 }
+        requires vars { vars ≤ FORMULA_LIMIT }
+        requires place { start + length line.now ≤ PROOF_FILE_LIMIT }
         ensures ok { OnOk result (after_words vars self.old (words is_blank start line.now) ≡ Ok self.new) }
         ensures err { IfErr result (λ f. f.why ≢ TextWhy.Memory → after_words vars self.old (words is_blank start line.now) ≡ Err f) }
     {
@@ -77,8 +78,8 @@ impl Clauses {
 
     /// Reads a word that begins at a place.
     fn read_word(&mut self, vars: u32, word: &[u8], start: usize) -> Result<(), TextFault>
-        requires vars { vars ≤ 2147483647 }
-        requires place { start ≤ 2 ^ 28 }
+        requires vars { vars ≤ FORMULA_LIMIT }
+        requires place { start ≤ PROOF_FILE_LIMIT }
         ensures ok { OnOk result (after_word vars self.old (record { start = start; bytes = word.now }) ≡ Ok self.new) }
         ensures err { IfErr result (λ f. f.why ≢ TextWhy.Memory → after_word vars self.old (record { start = start; bytes = word.now }) ≡ Err f) }
     {
@@ -105,7 +106,7 @@ impl Clauses {
 
     /// Takes a literal to the clause that is open.
     fn take(&mut self, number: Signed) -> Result<(), NoMemory>
-        requires { number.size ≤ 2147483647 }
+        requires { number.size ≤ FORMULA_LIMIT }
         ensures { OnOk result (self.new ≡ record { closed = self.old.closed; pending = self.old.pending ++ literal_of number ∷ [] }) }
     {
         self.pending.push(number.literal())?;
@@ -124,7 +125,7 @@ impl Clauses {
 
     /// The formula, where the text of so many bytes ends here.
     pub fn finish(self, len: usize, head: Head) -> Result<Cnf, TextFault>
-        requires { len ≤ 2 ^ 28 }
+        requires { len ≤ PROOF_FILE_LIMIT }
         ensures { result ≡ at_end len head self }
     {
         let offset = len as u32;
@@ -167,7 +168,7 @@ fn make_once(alloc: Global, lits: &[Lit]) -> Result<List<Lit>, NoMemory>
 fn once_by_scan(alloc: Global, lits: &[Lit]) -> Result<List<Lit>, NoMemory>
     ensures { IfOk result (λ clause. clause ≡ once lits.now) }
 {
-    let mut clause = List::new(alloc);
+    let mut clause = List::of(Vec::with_capacity(alloc, lits.len())?);
     for lit in lits {
         if !has_literal(clause.as_slice(), *lit) {
             clause.push(*lit)?;

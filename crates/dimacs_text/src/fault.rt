@@ -9,19 +9,19 @@ use thiserror::Error;
 #[derive(Clone, Copy, Debug, PartialEq, Eq, Error)]
 pub enum TextWhy {
     /// The first line that is no comment is not `p cnf V C` with numbers up to 2,147,483,647, or there is none.
-    #[error("no head")]
+    #[error("header")]
     Header,
     /// A word is not digits with an optional hyphen, or above 4,294,967,295.
-    #[error("no number")]
+    #[error("number")]
     Number,
     /// A literal is of no variable that the head names.
-    #[error("the literal {0} is of no variable")]
+    #[error("range {0}")]
     Range(i64),
     /// The last clause has no 0.
-    #[error("the last clause is not ended")]
+    #[error("unended")]
     Unended,
     /// So many clauses there are, and so many the head names.
-    #[error("{0} clauses, where the head names {1}")]
+    #[error("count {0} {1}")]
     Count(u64, u64),
     /// There was no memory for the formula. It says nothing of the text.
     #[error("out of memory")]
@@ -33,7 +33,7 @@ pub enum TextWhy {
 /// The place is the first byte of the line that should be the head, or of the word. For a head that is missing, a clause that is not ended
 /// and a wrong count it is the text's length. At `Memory` it has no meaning.
 #[derive(Clone, Copy, Debug, PartialEq, Eq, Error)]
-#[error("at byte {offset}: {why}")]
+#[error("{offset} {why}")]
 pub struct TextFault {
     pub offset: u32,
     pub why: TextWhy,

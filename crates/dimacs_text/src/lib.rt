@@ -8,13 +8,11 @@ mod laws;
 mod number;
 mod parts;
 mod read;
-#[cfg(test)]
-mod tests;
 mod write;
 
 pub use fault::{TextFault, TextWhy};
 pub use laws::{one_formula_is_spelled, readings_are_spelled, texts_say_formulas};
-pub use number::{Signed, append_number, read_number, read_signed};
+pub use number::{Signed, read_signed};
 pub use parts::{line_end, next_field};
 pub use read::read_dimacs;
 pub use write::{append_literals, write_dimacs};

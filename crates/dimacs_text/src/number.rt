@@ -1,21 +1,13 @@
 //! Numbers and literals in decimal digits, read and written.
 ghost use Rattle.std.specs.Int.{w64};
-ghost use Rattle.std.specs.Prelude.{FitsSigned, ◌≡◌, ◌<◌, ◌≤◌, ◌++◌, decimal, length, take, IfSome, OnOk, OnErr};
+ghost use Rattle.rsfq_ids.specs.declared.limits.TheConstants.{FORMULA_LIMIT};
+ghost use Rattle.std.specs.Prelude.{FitsSigned, ◌≡◌, ◌<◌, ◌≤◌, ◌++◌, length, take, OnOk, OnErr};
 ghost use Rattle.dimacs_text.specs.Text.{literal_text};
-ghost use Rattle.dimacs_text.specs.Number.{number_up_to, signed_of, whole_of, literal_of};
+ghost use Rattle.dimacs_text.specs.Number.{signed_of, whole_of, literal_of};
 
-use itoa::Buffer;
+use decimal_text::{append_number, read_number};
 use rsfq_ids::id::{Id, Lit};
 use std::alloc::AllocError;
-
-/// Appends a number in its shortest form. After a refusal the bytes are as they were.
-pub fn append_number(out: &mut Vec<u8>, number: u64) -> Result<(), AllocError>
-    ensures ok { OnOk result (out.new.items ≡ out.old.items ++ decimal number) }
-    ensures err { OnErr result (take (length out.old.items) out.new.items ≡ out.old.items) }
-{
-    let mut buffer = Buffer::new();
-    out.extend_from_slice(buffer.format(number).as_bytes())
-}
 
 /// Appends a literal. After a refusal some bytes may stand behind those that were there.
 pub fn append_literal(out: &mut Vec<u8>, lit: Lit) -> Result<(), AllocError>
@@ -48,7 +40,7 @@ impl Signed {
 
     /// The literal of the number. 0 gives that of 1.
     pub fn literal(self) -> Lit
-        requires { self.size ≤ 2147483647 }
+        requires { self.size ≤ FORMULA_LIMIT }
         ensures { result ≡ literal_of self }
     {
         Lit::of(2 * self.size.saturating_sub(1) + u32::from(self.negative))
@@ -64,30 +56,5 @@ pub fn read_signed(field: &[u8]) -> Option<Signed>
     match read_number(digits, u32::MAX) {
         Some(size) => Some(Signed { negative, size }),
         None => None,
-    }
-}
-
-/// The number of a field that is digits, of a value up to `most`, and else `None`.
-pub fn read_number(digits: &[u8], most: u32) -> Option<u32>
-    ensures number { result ≡ number_up_to most digits.now }
-    ensures small { IfSome result (λ n. n ≤ most) }
-{
-    if digits.is_empty() {
-        return None;
-    }
-    let limit = u64::from(most);
-    let mut value: u64 = 0;
-    for byte in digits {
-        if !byte.is_ascii_digit() {
-            return None;
-        }
-        if value <= limit {
-            value = value * 10 + u64::from(*byte - b'0');
-        }
-    }
-    if value <= limit {
-        Some(value as u32)
-    } else {
-        None
     }
 }

@@ -71,5 +71,5 @@ pub fn word_end(text: &[u8], at: usize) -> usize
 fn is_blank(byte: u8) -> bool
     ensures { result ≡ is_blank byte }
 {
-    byte == b' ' || byte == b'\n' || byte == b'\t' || byte == b'\r' || byte == 12
+    byte <= b' ' && (byte == b' ' || byte == b'\n' || byte == b'\t' || byte == b'\r' || byte == 12)
 }

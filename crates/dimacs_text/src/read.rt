@@ -1,5 +1,6 @@
 //! Reading the text of a formula.
 ghost use Rattle.std.specs.Prelude.{◌≡◌, ◌≢◌, ◌≤◌, ◌+◌, ◌^◌, ◌<◌, slice_index, length, drop, IfOk, IfErr, Ok, Err};
+ghost use Rattle.rsfq_ids.specs.declared.limits.TheConstants.{FORMULA_LIMIT, PROOF_FILE_LIMIT};
 ghost use Rattle.rsfq_ids.specs.Formula.{IsFormula};
 ghost use Rattle.dimacs_text.specs.Parts.{lines};
 ghost use Rattle.dimacs_text.specs.Reading.{reading, without_comments, after_head};
@@ -19,7 +20,7 @@ use std::alloc::Global;
 ///
 /// The first fault of the text, where it has one: exactly where the text spells no formula. Only `TextWhy::Memory` may come of any text.
 pub fn read_dimacs(alloc: Global, bytes: &[u8]) -> Result<Cnf, TextFault>
-    requires { length bytes.now ≤ 268435456 }
+    requires { length bytes.now ≤ PROOF_FILE_LIMIT }
     ensures ok { IfOk result (λ cnf. reading bytes.now ≡ Ok cnf) }
     ensures formula { IfOk result IsFormula }
     ensures err { IfErr result (λ fault. fault.why ≢ TextWhy.Memory → reading bytes.now ≡ Err fault) }
@@ -59,8 +60,8 @@ fn comments_end(bytes: &[u8]) -> usize
 
 /// The formula of a head and of the lines that follow it, from a place on.
 fn read_clauses(alloc: Global, bytes: &[u8], start: usize, head: Head) -> Result<Cnf, TextFault>
-    requires vars { head.vars ≤ 2147483647 }
-    requires limit { length bytes.now ≤ 2 ^ 28 }
+    requires vars { head.vars ≤ FORMULA_LIMIT }
+    requires limit { length bytes.now ≤ PROOF_FILE_LIMIT }
     ensures ok { IfOk result (λ cnf. after_head (length bytes.now) (lines start (drop start bytes.now)) head ≡ Ok cnf) }
     ensures err { IfErr result (λ fault. fault.why ≢ TextWhy.Memory → after_head (length bytes.now) (lines start (drop start bytes.now)) head ≡ Err fault) }
 {

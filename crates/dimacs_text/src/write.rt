@@ -3,7 +3,8 @@ ghost use Rattle.std.specs.Prelude.{◌≡◌, ◌++◌, length, take, OnOk, OnE
 ghost use Rattle.std.specs.List.{flat_map};
 ghost use Rattle.dimacs_text.specs.Text.{spaced_literal, clause_line, head_line, dimacs_of};
 
-use crate::number::{append_literal, append_number};
+use crate::number::append_literal;
+use decimal_text::append_number;
 use rsfq_ids::circuit::Cnf;
 use rsfq_ids::id::Lit;
 use rsfq_ids::list::{List, NoMemory};

@@ -1,5 +1,6 @@
 -- A timing table that is read is well formed.
 use Rattle.std.proofs.Common.{◌≡◌, ◌∙◌, ◌+◌, ℕ, zero, suc, ◌<◌, pos, true, sym, refl, ap, subst, arith, List, [], ◌∷◌, length, take, drop, get_or, Option, Some, None}
+use Rattle.rsfq_ids.specs.declared.limits.TheConstants.{TIME_LIMIT}
 use Rattle.std.specs.Prelude.{nat_le, unwrap_or}
 use Rattle.std.specs.List.{All, filter_map}
 use Rattle.std.specs.Str.Parse.{digits_value}
@@ -21,7 +22,7 @@ use Rattle.env_table.specs.Roles.{one_fault, role_of, times_fault}
 use Rattle.env_table.specs.Lines.{AreLinesOf, FitsUse, IsEnv, is_of_period, line_as, line_fault, line_of, repeated_fault, role_in, start_fault}
 use Rattle.env_table.proofs.ReadFacts.{fault_before}
 
-one_time : (least : ℕ) (fields : List (List ℕ)) → one_fault least fields ≡ None → IsWithin (pos least) (pos 1000000000) (time_of (field fields 2))
+one_time : (least : ℕ) (fields : List (List ℕ)) → one_fault least fields ≡ None → IsWithin (pos least) (pos TIME_LIMIT) (time_of (field fields 2))
 one_time least fields none = time_within 2 least (field fields 2) (none_first (time_fault 2 least (field fields 2)) (empty_fault 3 (field fields 3) ∷ empty_fault 4 (field fields 4) ∷ []) none)
 
 fits_line : (of : Role) (fields : List (List ℕ)) (line : EnvLine) → line_as of fields ≡ Some line → times_fault of fields ≡ None → FitsUse line.used line.jitter

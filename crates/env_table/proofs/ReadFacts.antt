@@ -21,12 +21,12 @@ use Rattle.env_table.specs.declared.read.SoFar.{SoFar}
 use Rattle.env_table.specs.declared.role.Role.{Role}
 use Rattle.env_table.specs.declared.role.Role.TheVariants as role
 use Rattle.env_table.specs.Roles.{fits_port, role_of, role_text, times_fault}
-use Rattle.env_table.specs.Lines.{AreLinesOf, IsFirstFault, fault_at, is_of_period, is_period, line_as, line_fault, line_of, period_fault, repeated_fault, role_in, row_fault, start_fault}
+use Rattle.env_table.specs.Lines.{AreLinesOf, IsFirstEnvFault, fault_at, is_of_period, is_period, line_as, line_fault, line_of, period_fault, repeated_fault, role_in, row_fault, start_fault}
 use Rattle.env_table.specs.Said.{Adds, Blocks, IsReadUpTo, SaysAs}
 use Rattle.table_fields.proofs.PlaceFacts.{place_found, place_passed}
 
 -- bytes without a record have no head
-pub no_records : {X : Type 0} (f : X → List (List ℕ)) (xs : List X) → (length xs == 0) ≡ true → IsFirstFault (map f xs) (record { row = 0; why = Header })
+pub no_records : {X : Type 0} (f : X → List (List ℕ)) (xs : List X) → (length xs == 0) ≡ true → IsFirstEnvFault (map f xs) (record { row = 0; why = Header })
 unfolding first_of
 no_records f [] none = record { there = omega arith; cause = refl; first = λ row less. absurd (omega arith) }
 no_records f (x ∷ xs) none = let same = eqb-true (length (x ∷ xs)) 0 none in absurd (omega arith)
@@ -185,7 +185,7 @@ fault_after : (records : List (List (List ℕ))) (row : ℕ) → max 1 (length r
 fault_after records row le = rw (le-ltb row (max 1 (length records)) le) refl
 
 pub first_refused : (records : List (List (List ℕ))) (place : ℕ) (so_far : SoFar) (why : TableWhy) → place + 1 < length records → IsReadUpTo records place so_far
-    → row_fault records (suc place) ≡ Some why → IsFirstFault records (record { row = place + 1; why = why })
+    → row_fault records (suc place) ≡ Some why → IsFirstEnvFault records (record { row = place + 1; why = why })
 first_refused records place so_far why less read cause = record {
   there = omega arith;
   cause = fault_before records (place + 1) (omega arith) ∙ (ap (row_fault records) (add-one place) ∙ cause);
@@ -232,7 +232,7 @@ ended records place so_far env some all read end =
 
 -- all records are read, and none of them gives the period
 pub no_period : (records : List (List (List ℕ))) (place : ℕ) (so_far : SoFar) (fault : TableFault) → 0 < length records → place + 1 ≡ length records → IsReadUpTo records place so_far
-    → (fault.row ≡ length records) × (fault.why ≡ Period) × (so_far.period ≡ None) → IsFirstFault records fault
+    → (fault.row ≡ length records) × (fault.why ≡ Period) × (so_far.period ≡ None) → IsFirstEnvFault records fault
 no_period records place so_far fault some all read end =
     let at : position is_period (drop 1 records) ≡ None =
     ap (position is_period) (sym (all_read records place (omega arith))) ∙ (read.found ∙ ap (option_map (λ (q : FoundPeriod). q.place)) end.2) in

@@ -77,7 +77,7 @@ abbrev pub fault_at : List (List (List ℕ)) → ℕ → Option TableWhy
 fault_at records row = if nat_lt row (max 1 (length records)) then row_fault records row else period_fault records
 
 -- The first row that is refused, and the first cause.
-pub record IsFirstFault (records : List (List (List ℕ))) (fault : TableFault) : Type 0 where
+pub record IsFirstEnvFault (records : List (List (List ℕ))) (fault : TableFault) : Type 0 where
   pub there : fault.row ≤ length records
   pub cause : fault_at records fault.row ≡ Some fault.why
   pub first : (row : ℕ) → row < fault.row → fault_at records row ≡ None

@@ -8,6 +8,4 @@ pub mod fault;
 mod line;
 pub mod read;
 pub mod role;
-#[cfg(test)]
-mod tests;
 mod uses;

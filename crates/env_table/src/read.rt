@@ -4,7 +4,7 @@ ghost use Rattle.std.specs.Prelude.{◌≡◌, ◌≢◌, ◌+◌, ◌<◌, ◌�
 ghost use Rattle.csv.specs.Records.{fields_of};
 ghost use Rattle.rsfq_ids.specs.declared.table_fault.TableWhy.{TableWhy};
 ghost use Rattle.table_fields.specs.Records.{head_fault, records_of};
-ghost use Rattle.env_table.specs.Lines.{AreLinesOf, IsEnv, IsFirstFault, head, row_fault};
+ghost use Rattle.env_table.specs.Lines.{AreLinesOf, IsEnv, IsFirstEnvFault, head, row_fault};
 ghost use Rattle.env_table.specs.Said.{Adds, Blocks, IsReadUpTo};
 
 use crate::env::{Env, EnvLine};
@@ -45,7 +45,7 @@ fn check_env_head(fields: &ByteRecord) -> Result<(), TableWhy>
 fn check_start(records: &[ByteRecord]) -> Result<(), TableFault>
     ensures passed { OnOk result (row_fault (map fields_of records.now) zero ≡ None) }
     ensures some { OnOk result (0 < length records.now) }
-    ensures fault { IfErr result (λ fault. fault.why ≢ TableWhy.Memory → IsFirstFault (map fields_of records.now) fault) }
+    ensures fault { IfErr result (λ fault. fault.why ≢ TableWhy.Memory → IsFirstEnvFault (map fields_of records.now) fault) }
 {
     if records.is_empty() {
         return Err(TableFault {
@@ -123,7 +123,7 @@ fn read_lines(alloc: Global, records: &[ByteRecord]) -> Result<Env, TableFault>
     requires few { length records.now < 2 ^ 32 }
     requires head { row_fault (map fields_of records.now) zero ≡ None }
     ensures lines { IfOk result (AreLinesOf (map fields_of records.now)) }
-    ensures fault { IfErr result (λ fault. fault.why ≢ TableWhy.Memory → IsFirstFault (map fields_of records.now) fault) }
+    ensures fault { IfErr result (λ fault. fault.why ≢ TableWhy.Memory → IsFirstEnvFault (map fields_of records.now) fault) }
 {
     let mut so_far = SoFar {
         period: None,
@@ -151,7 +151,7 @@ pub fn read_env(alloc: Global, bytes: &[u8]) -> Result<Env, TableFault>
     ensures few { OnOk result (length (records_of bytes.now) < 2 ^ 32) }
     ensures lines { IfOk result (AreLinesOf (records_of bytes.now)) }
     ensures well_formed { IfOk result IsEnv }
-    ensures fault { IfErr result (λ fault. fault.why ≢ TableWhy.Memory → IsFirstFault (records_of bytes.now) fault) }
+    ensures fault { IfErr result (λ fault. fault.why ≢ TableWhy.Memory → IsFirstEnvFault (records_of bytes.now) fault) }
     ensures few_refused { IfErr result (λ fault. fault.why ≢ TableWhy.Memory → length (records_of bytes.now) < 2 ^ 32) }
 {
     let Ok(records) = read_records(alloc, bytes) else {

@@ -3,4 +3,3 @@ pub mod Tables
 pub mod PortLists
 pub mod Texts
 pub mod NoMatch
-pub mod Samples

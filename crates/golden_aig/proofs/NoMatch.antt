@@ -22,7 +22,7 @@ use Rattle.golden_aig.specs.declared.graph.Aig.{Aig}
 use Rattle.golden_aig.specs.declared.pairing.Match.{Match}
 use Rattle.golden_aig.specs.declared.pairing.PortFault.{PortFault}
 use Rattle.golden_aig.specs.declared.pairing.PortFault.TheVariants as fault
-use Rattle.golden_aig.specs.Matched.{places_from, data_inputs, outputs_of, name_of, names_of, symbols_of, IsMatched, IsMatch, LacksPort, Repeats, Refuses, HasNoMatch, IsRefusal, MatchesNone}
+use Rattle.golden_aig.specs.Matched.{places_from, data_inputs, outputs_of, name_of, names_of, symbols_of, IsMatched, IsMatch, LacksPort, Repeats, Refuses, HasNoMatch, MemoryOr, MatchesNone}
 use Rattle.golden_aig.proofs.PortLists.{places_inside}
 use Rattle.golden_aig.proofs.Texts.{names_known}
 
@@ -176,6 +176,6 @@ refusals_have_no_match aig flat bench why apart ok (inl inputs) matched is = ref
 refusals_have_no_match aig flat bench why apart ok (inr (first, outputs)) matched is = refused_side flat (outputs_of flat) matched.outputs aig.out_names why apart (output_side flat) outputs is.outputs
 
 pub none_refused : (aig : Aig) (flat : Flat) (bench : Bench) (why : PortFault) → AreDistinct (map (λ (bit : PortBit). bit.name) flat.ports) → IsBench flat bench
-    → IsRefusal why (HasNoMatch aig flat bench why) → MatchesNone aig flat bench why
+    → MemoryOr why (HasNoMatch aig flat bench why) → MatchesNone aig flat bench why
 none_refused aig flat bench why apart ok (inl memory) = inl memory
 none_refused aig flat bench why apart ok (inr cause) = inr (refusals_have_no_match aig flat bench why apart ok cause)

@@ -16,12 +16,12 @@ use Rattle.std.proofs.lemmas.Slice.Eq.{bytes_eq-Decides}
 use Rattle.rsfq_ids.specs.WellFormed.{AreDistinct}
 use Rattle.rsfq_ids.specs.declared.id.PortId.{PortId}
 use Rattle.rsfq_ids.specs.declared.circuit.Flat.{Flat}
-use Rattle.golden_aig.specs.Matched.{name_of, names_of, symbols_of, IsMatched, IsMixed, Refuses, IsRefusal, Repeats, LacksPort}
+use Rattle.golden_aig.specs.Matched.{name_of, names_of, symbols_of, IsMatched, IsMixed, Refuses, MemoryOr, Repeats, LacksPort}
 use Rattle.golden_aig.specs.declared.pairing.PortFault.{PortFault}
 use Rattle.golden_aig.specs.declared.pairing.PortFault.TheVariants as fault
 use Rattle.golden_aig.specs.FirstPlaces.{place_in, HoldsPlaces}
-use Rattle.first_names.specs.declared.places.FirstNames.{FirstNames}
-use Rattle.first_names.specs.Places.{place_of, first_place, Sees}
+use Rattle.name_table.specs.declared.places.FirstNames.{FirstNames}
+use Rattle.name_table.specs.Places.{place_of, first_place, Sees}
 
 pub bytes_same : (s t : List ℕ) → bytes_eq s t ≡ true → s ≡ t
 bytes_same s t e = (bytes_eq-Decides s t).0 e
@@ -219,8 +219,8 @@ side_ok flat entries ports matched texts symbols names all apart count full = re
 }
 
 pub side_err : (flat : Flat) (entries : List (Option (List ℕ))) (ports matched : List PortId) (texts : List (List ℕ)) (why : PortFault) → texts ≡ symbols_of entries → names_of flat matched ≡ texts
-    → All (Contains ports) matched → length entries ≡ length ports → length texts ≡ length entries → IsRefusal why ((name : List ℕ) × (why ≡ fault.Repeated name) × Repeats texts name)
-    → IsRefusal why (Refuses flat ports entries why)
+    → All (Contains ports) matched → length entries ≡ length ports → length texts ≡ length entries → MemoryOr why ((name : List ℕ) × (why ≡ fault.Repeated name) × Repeats texts name)
+    → MemoryOr why (Refuses flat ports entries why)
 side_err flat entries ports matched texts why symbols names all count full (inl memory) = inl memory
 side_err flat entries ports matched texts why symbols names all count full (inr (name, is, repeats)) =
     let known : All (Contains (names_of flat ports)) texts = subst (All (Contains (names_of flat ports))) names (names_known flat ports matched all) in

@@ -1,8 +1,8 @@
 -- The first places of texts in a list.
 use Rattle.std.specs.Prelude.{◌≡◌, ℕ, List, Option, position}
 use Rattle.std.specs.Str.{bytes_eq}
-use Rattle.first_names.specs.declared.places.FirstNames.{FirstNames}
-use Rattle.first_names.specs.Places.{place_of}
+use Rattle.name_table.specs.declared.places.FirstNames.{FirstNames}
+use Rattle.name_table.specs.Places.{place_of}
 
 -- the first place at which a text stands, if it does
 abbrev pub place_in : List (List ℕ) → List ℕ → Option ℕ

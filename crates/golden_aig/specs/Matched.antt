@@ -85,9 +85,9 @@ HasNoMatch aig flat bench why =
     Refuses flat (data_inputs bench) aig.in_names why ⊎ (((inputs : List PortId) × IsMatched flat (data_inputs bench) aig.in_names inputs) × Refuses flat (outputs_of flat) aig.out_names why)
 
 -- want of memory, which has no cause, or that
-abbrev pub IsRefusal : PortFault → Type 0 → Type 0
-IsRefusal why Cause = (why ≡ fault.Memory) ⊎ Cause
+abbrev pub MemoryOr : PortFault → Type 0 → Type 0
+MemoryOr why Cause = (why ≡ fault.Memory) ⊎ Cause
 
 -- want of memory, or no pairing is a match
 abbrev pub MatchesNone : Aig → Flat → Bench → PortFault → Type 0
-MatchesNone aig flat bench why = IsRefusal why ((matched : Match) → ¬ IsMatch aig flat bench matched)
+MatchesNone aig flat bench why = MemoryOr why ((matched : Match) → ¬ IsMatch aig flat bench matched)

@@ -15,6 +15,3 @@ pub use graph::{Aig, And};
 pub use laws::{golden_values, values_are_determined};
 pub use matching::match_ports;
 pub use pairing::{Match, PortFault};
-
-#[cfg(test)]
-mod tests;

@@ -5,12 +5,12 @@ ghost use Rattle.std.specs.List.{All, Contains};
 ghost use Rattle.rsfq_ids.specs.WellFormed.{AreDistinct, IsBench};
 ghost use Rattle.golden_aig.specs.Aig.{IsAig};
 ghost use Rattle.golden_aig.specs.FirstPlaces.{HoldsPlaces};
-ghost use Rattle.golden_aig.specs.Matched.{data_inputs, outputs_of, name_of, names_of, symbols_of, IsMatched, IsMatch, LacksPort, Repeats, Refuses, HasNoMatch, IsRefusal, MatchesNone};
+ghost use Rattle.golden_aig.specs.Matched.{data_inputs, outputs_of, name_of, names_of, symbols_of, IsMatched, IsMatch, LacksPort, Repeats, Refuses, HasNoMatch, MemoryOr, MatchesNone};
 ghost use Rattle.golden_aig.specs.declared.pairing.PortFault.TheVariants as fault;
 
 use crate::graph::Aig;
 use crate::pairing::{Match, PortFault};
-use first_names::FirstNames;
+use name_table::{FirstNames, TextKeyed};
 use rsfq_ids::circuit::{Bench, Flat};
 use rsfq_ids::id::{Id, PortId};
 use rsfq_ids::list::List;
@@ -67,6 +67,26 @@ fn list_symbols(alloc: Global, entries: &[Option<Name>]) -> Result<Vec<&str>, Po
     Ok(symbols)
 }
 
+/// The hasher of the names of ports: it has read them all.
+fn key_ports(flat: &Flat, ports: &[PortId]) -> TextKeyed
+    requires { All (λ port. port < length flat.now.ports) ports.now }
+{
+    let mut keys = TextKeyed::of(b"");
+    for port in ports {
+        keys = keys.and(port_name(flat, *port).as_bytes());
+    }
+    keys
+}
+
+/// The hasher of symbols: it has read them all.
+fn key_symbols(symbols: &[&str]) -> TextKeyed {
+    let mut keys = TextKeyed::of(b"");
+    for symbol in symbols {
+        keys = keys.and(symbol.as_bytes());
+    }
+    keys
+}
+
 /// The names of ports, each with the first place at which it stands.
 fn tabulate_names<'a>(
     alloc: Global,
@@ -77,7 +97,7 @@ fn tabulate_names<'a>(
     ensures ok { IfOk result (HoldsPlaces (names_of flat.entry.now ports.now)) }
     ensures err { IfErr result (λ why. why ≡ fault.Memory) }
 {
-    let mut table = FirstNames::new(alloc);
+    let mut table = FirstNames::new(alloc, key_ports(flat, ports));
     for (place, port) in ports.iter().enumerate() {
         table.see(port_name(flat, *port), place)?;
     }
@@ -94,7 +114,7 @@ fn find_ports(
     requires { All (λ port. port < length flat.now.ports) ports.now }
     ensures names { IfOk result (λ matched. names_of flat.now matched ≡ map (λ text. text.now) symbols.now) }
     ensures ports { IfOk result (λ matched. All (Contains ports.now) matched) }
-    ensures err { IfErr result (λ why. IsRefusal why ((name : _) × (why ≡ fault.NoPort name) × LacksPort flat.now ports.now (map (λ text. text.now) symbols.now) name)) }
+    ensures err { IfErr result (λ why. MemoryOr why ((name : _) × (why ≡ fault.NoPort name) × LacksPort flat.now ports.now (map (λ text. text.now) symbols.now) name)) }
 {
     let table = tabulate_names(alloc, flat, ports)?;
     let mut matched = List::new(alloc);
@@ -110,9 +130,9 @@ fn find_ports(
 /// Refuses symbols of which one stands there twice.
 fn refuse_repeats(alloc: Global, symbols: &[&str]) -> Result<(), PortFault>
     ensures ok { OnOk result (AreDistinct (map (λ text. text.now) symbols.now)) }
-    ensures err { IfErr result (λ why. IsRefusal why ((name : _) × (why ≡ fault.Repeated name) × Repeats (map (λ text. text.now) symbols.now) name)) }
+    ensures err { IfErr result (λ why. MemoryOr why ((name : _) × (why ≡ fault.Repeated name) × Repeats (map (λ text. text.now) symbols.now) name)) }
 {
-    let mut table = FirstNames::new(alloc);
+    let mut table = FirstNames::new(alloc, key_symbols(symbols));
     for (place, symbol) in symbols.iter().enumerate() {
         if !table.see(symbol, place)? {
             return Err(PortFault::Repeated(Name::of(alloc, symbol)?));
@@ -130,7 +150,7 @@ fn match_side(
 ) -> Result<List<PortId>, PortFault>
     requires { All (λ port. port < length flat.now.ports) ports.items }
     ensures ok { IfOk result (λ matched. IsMatched flat.now ports.items entries.now matched) }
-    ensures err { IfErr result (λ why. IsRefusal why (Refuses flat.now ports.items entries.now why)) }
+    ensures err { IfErr result (λ why. MemoryOr why (Refuses flat.now ports.items entries.now why)) }
 {
     let symbols = list_symbols(alloc, entries)?;
     if symbols.len() != 0 && symbols.len() != entries.len() {
@@ -160,7 +180,7 @@ pub fn match_ports(alloc: Global, aig: &Aig, flat: &Flat, bench: &Bench) -> Resu
     requires names { AreDistinct (map (λ port. port.name) flat.now.ports) }
     requires bench { IsBench flat.now bench.now }
     ensures matched { IfOk result (λ matched. IsMatch aig.now flat.now bench.now matched) }
-    ensures refused { IfErr result (λ why. IsRefusal why (HasNoMatch aig.now flat.now bench.now why)) }
+    ensures refused { IfErr result (λ why. MemoryOr why (HasNoMatch aig.now flat.now bench.now why)) }
     ensures none { IfErr result (MatchesNone aig.now flat.now bench.now) }
 {
     let inputs = match_side(

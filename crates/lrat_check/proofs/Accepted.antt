@@ -23,11 +23,11 @@ use Rattle.dimacs_text.specs.Text.{literal_text, spaced_literal}
 use Rattle.dimacs_text.specs.declared.number.Signed.{Signed}
 use Rattle.dimacs_text.proofs.Written.{Separates, newlines, spaces, apart, or_left, part_first, word_first, literal_free, literal_some, literals_free, signed_literal, literal_back, signed_read, signed_number, decimal_free, decimal_some, number_read, regroup}
 use Rattle.lrat_lines.specs.Lines.{addition, number_field, field_of, list_from, list_of, with_hints, addition_of, behind_id, with_id, fields_say, has_outer_space, line_of}
-use Rattle.clause_table.specs.Found.{Found, given_at, with_clause}
+use Rattle.lrat_table.specs.Found.{Found, given_at, with_clause}
 use Rattle.lrat_check.specs.Check.{Known, at_reading, at_clause, hints_fault, range_fault, clause_of, addition_fault, added, unless_why, after_line, on_from, lines_fault}
 use Rattle.lrat_check.specs.declared.fault.LratWhy.{LratWhy}
 use Rattle.lrat_check.specs.Written.{spaced_hint, step_lines, lrat_of, StandsFor, IsAccepted}
-use Rattle.clause_table.proofs.GivenSays.{given_more}
+use Rattle.lrat_table.proofs.GivenSays.{given_more}
 use Rattle.lrat_check.proofs.CheckSays.{is_judged}
 
 -- ---- fields

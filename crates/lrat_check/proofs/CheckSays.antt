@@ -13,7 +13,7 @@ use Rattle.dimacs_text.specs.Parts.{is_empty}
 use Rattle.dimacs_text.specs.declared.number.Signed.{Signed}
 use Rattle.lrat_check.specs.declared.fault.LratWhy.{LratWhy}
 use Rattle.lrat_check.specs.declared.fault.LratWhy.TheVariants as why
-use Rattle.clause_table.specs.Found.{Found, given_at, with_clause, without_clause}
+use Rattle.lrat_table.specs.Found.{Found, given_at, with_clause, without_clause}
 use Rattle.lrat_check.specs.Check.{Known, known_at_first, at_reading, at_clause, hints_fault, range_fault, clause_of, or_else, addition_fault, added, deleted, deleted_if}
 
 -- the next of numbers

@@ -11,3 +11,5 @@ pub mod Accepted
 mod StepLaw
 mod CommandLaw
 mod Reached
+mod NearTables
+mod BreakLaw

@@ -7,7 +7,7 @@ use Rattle.std.proofs.lemmas.Option.{slice_get_within, get_or_from_slice_get}
 use Rattle.rsfq_ids.specs.Formula.{Clause, opposite, value_of, Satisfies, HasSolution}
 use Rattle.rsfq_ids.specs.declared.circuit.Cnf.{Cnf}
 use Rattle.proof_arena.specs.Step.{is_among, makes_false, reading, is_tautology}
-use Rattle.proof_arena.specs.Laws.{Agrees, IsTold, ReadingsAreSound, DenialsAreSound}
+use Rattle.proof_arena.specs.Laws.{Agrees, IsTrueReading, ReadingsAreSound, DenialsAreSound}
 use Rattle.proof_arena.specs.declared.hint.HintReading.{HintReading}
 use Rattle.proof_arena.specs.declared.hint.HintReading.TheVariants.{Conflict, Passed, Unit as UnitLit, NotUnit}
 use Rattle.dimacs_text.specs.Parts.{Part, lines, is_empty}
@@ -16,7 +16,7 @@ use Rattle.lrat_check.specs.declared.fault.LratFault.{LratFault}
 use Rattle.lrat_check.specs.declared.fault.LratWhy.{LratWhy}
 use Rattle.lrat_check.specs.declared.fault.LratWhy.TheVariants as why
 use Rattle.lrat_lines.specs.Lines.{Line, skipped, broken, addition, deletion, line_of}
-use Rattle.clause_table.specs.Found.{Found, given_at, with_clause, without_clause}
+use Rattle.lrat_table.specs.Found.{Found, given_at, with_clause, without_clause}
 use Rattle.lrat_check.specs.Check.{Known, known_at_first, at_reading, at_clause, hints_fault, range_fault, clause_of, or_else, addition_fault, added, unless_why, deleted, deleted_if, keeps, after_line, on_from, lines_fault, text_fault}
 
 no_fault : {A : Type 0} (f : A) → Some f ≡ None → ⊥
@@ -39,7 +39,7 @@ abbrev AllFound : (ℕ → Bool) → Found → Type 0
 AllFound values found = (id : ℕ) (clause : Clause) → found id ≡ Some clause → Satisfies values clause
 
 module _ (readings : ReadingsAreSound) (denials : DenialsAreSound) (values : ℕ → Bool) where
-  on_reading : (id : ℕ) (falses : ℕ → Bool) (rest : (ℕ → Bool) → Option LratWhy) (said : HintReading) → Agrees values falses → IsTold values falses said
+  on_reading : (id : ℕ) (falses : ℕ → Bool) (rest : (ℕ → Bool) → Option LratWhy) (said : HintReading) → Agrees values falses → IsTrueReading values falses said
       → ((next : ℕ → Bool) → Agrees values next → rest next ≡ None → ⊥) → at_reading id falses rest said ≡ None → ⊥
   on_reading id falses rest Conflict agrees told onward is = told
   on_reading id falses rest Passed agrees told onward is = onward falses agrees is

@@ -11,12 +11,13 @@ use Rattle.proof_arena.specs.Step.{StepHolds, is_among, makes_false, is_tautolog
 use Rattle.proof_arena.specs.declared.hint.HintReading.{HintReading}
 use Rattle.proof_arena.specs.declared.hint.HintReading.TheVariants.{Conflict, Passed, Unit as UnitLit, NotUnit}
 use Rattle.dimacs_text.specs.Parts.{Part, words, is_space}
-use Rattle.dimacs_text.specs.Number.{number_up_to, signed_of, literal_of}
+use Rattle.decimal_text.specs.Number.{number_up_to}
+use Rattle.dimacs_text.specs.Number.{signed_of, literal_of}
 use Rattle.dimacs_text.specs.declared.number.Signed.{Signed}
 use Rattle.lrat_check.specs.declared.fault.LratWhy.{LratWhy}
 use Rattle.lrat_check.specs.declared.fault.LratWhy.TheVariants as why
 use Rattle.lrat_lines.specs.Lines.{Line, skipped, broken, addition, deletion, number_field, field_of, list_from, list_of, deletion_of, with_hints, addition_of, behind_id, with_id, fields_say, has_outer_space, line_of}
-use Rattle.clause_table.specs.Found.{Found}
+use Rattle.lrat_table.specs.Found.{Found}
 use Rattle.lrat_check.specs.Check.{Known, at_reading, at_clause, hints_fault, range_fault, clause_of, or_else, addition_fault, added, unless_why, after_line}
 use Rattle.lrat_check.specs.Laws.{hinted, NamesClauses, AdditionsAreSteps, HintsNameClauses}
 

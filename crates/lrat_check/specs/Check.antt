@@ -12,7 +12,7 @@ use Rattle.dimacs_text.specs.declared.number.Signed.{Signed}
 use Rattle.lrat_check.specs.declared.fault.LratFault.{LratFault}
 use Rattle.lrat_check.specs.declared.fault.LratWhy.{LratWhy}
 use Rattle.lrat_check.specs.declared.fault.LratWhy.TheVariants as why
-use Rattle.clause_table.specs.Found.{Found, given_at, with_clause, without_clause}
+use Rattle.lrat_table.specs.Found.{Found, given_at, with_clause, without_clause}
 use Rattle.lrat_lines.specs.Lines.{Line, skipped, broken, addition, deletion, line_of}
 
 -- ---- the clauses that are known

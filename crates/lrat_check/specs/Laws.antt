@@ -3,7 +3,7 @@ use Rattle.std.specs.Prelude.{◌≡◌, ◌<◌, ◌↔◌, ℕ, List, [], ◌�
 use Rattle.rsfq_ids.specs.Formula.{Clause}
 use Rattle.proof_arena.specs.Step.{StepHolds}
 use Rattle.dimacs_text.specs.declared.number.Signed.{Signed}
-use Rattle.clause_table.specs.Found.{Found}
+use Rattle.lrat_table.specs.Found.{Found}
 use Rattle.lrat_check.specs.Check.{Known, clause_of, added, after_line}
 use Rattle.lrat_lines.specs.Lines.{addition, line_of}
 

@@ -7,3 +7,4 @@ pub mod Report
 pub mod Run
 pub mod Written
 pub mod Laws
+pub mod Breaks

@@ -1,22 +1,23 @@
 //! The check of a proof.
 ghost use Rattle.std.specs.Prelude.{◌≡◌, ◌≢◌, ◌≤◌, ◌<◌, ◌+◌, None, Some, Ok, Err, false, min, length, IfErr, OnOk, IfOk};
+ghost use Rattle.rsfq_ids.specs.declared.limits.TheConstants.{FORMULA_LIMIT, PROOF_FILE_LIMIT};
 ghost use Rattle.std.specs.List.{concat};
 ghost use Rattle.rsfq_ids.specs.Formula.{IsFormula, HasSolution};
 ghost use Rattle.proof_arena.specs.Table.{falses_of};
 ghost use Rattle.dimacs_text.specs.Parts.{lines};
 ghost use Rattle.lrat_lines.specs.Forms.{form_of};
 ghost use Rattle.lrat_lines.specs.Lines.{line_of};
-ghost use Rattle.clause_table.specs.Entries.{found_of};
-ghost use Rattle.lrat_check.specs.Tables.{known_of, HasNearTable};
+ghost use Rattle.lrat_table.specs.Entries.{found_of};
+ghost use Rattle.lrat_check.specs.Tables.{known_of, HasNearTable, MeetsAtMost};
 ghost use Rattle.lrat_check.specs.Reached.{vars_up_to};
 ghost use Rattle.lrat_check.specs.Check.{after_line, addition_fault, added, clause_of, deleted, hints_fault, range_fault, text_fault, unless_why, keeps, at_end, known_at_first};
 
 use crate::fault::{LratFault, LratWhy};
 use crate::reach::Reach;
 use bumpalo::Bump;
-use clause_table::ClauseTable;
 use dimacs_text::{Signed, line_end};
 use lrat_lines::{Form, Numbers};
+use lrat_table::ClauseTable;
 use proof_arena::{HintReading, Marks, denials_are_sound, readings_are_sound};
 use rsfq_ids::circuit::Cnf;
 use rsfq_ids::id::Lit;
@@ -58,10 +59,13 @@ impl<'a> Checker<'a> {
 
     /// Checks a line.
     fn check_line(&mut self, line: &[u8], numbers: &mut Numbers) -> Result<(), LratWhy>
-        requires { self.old.vars ≤ 2147483647 }
+        requires vars { self.old.vars ≤ FORMULA_LIMIT }
+        requires near { HasNearTable self.old }
         ensures ok { OnOk result (after_line self.old.vars (known_of self.old) (line_of line.now) ≡ Ok (known_of self.new)) }
         ensures err { IfErr result (λ why. why ≢ LratWhy.Memory → after_line self.old.vars (known_of self.old) (line_of line.now) ≡ Err why) }
         ensures vars { self.new.vars ≡ self.old.vars }
+        ensures near { HasNearTable self.new }
+        ensures meets { MeetsAtMost self.old self.new (clause_of numbers.new.lits.items) }
     {
         match numbers.read_line(line) {
             Ok(form) => self.take_line(form, numbers),
@@ -86,10 +90,13 @@ impl<'a> Checker<'a> {
 
     /// Reads what a line says, of the numbers that it has.
     fn take_line(&mut self, form: Form, numbers: &Numbers) -> Result<(), LratWhy>
-        requires { self.old.vars ≤ 2147483647 }
+        requires vars { self.old.vars ≤ FORMULA_LIMIT }
+        requires near { HasNearTable self.old }
         ensures ok { OnOk result (after_line self.old.vars (known_of self.old) (form_of form numbers.now.lits.items numbers.now.hints.items) ≡ Ok (known_of self.new)) }
         ensures err { IfErr result (λ why. why ≢ LratWhy.Memory → after_line self.old.vars (known_of self.old) (form_of form numbers.now.lits.items numbers.now.hints.items) ≡ Err why) }
         ensures vars { self.new.vars ≡ self.old.vars }
+        ensures near { HasNearTable self.new }
+        ensures meets { MeetsAtMost self.old self.new (clause_of numbers.now.lits.items) }
     {
         match form {
             Form::Skipped => Ok(()),
@@ -104,6 +111,8 @@ impl<'a> Checker<'a> {
         ensures ok { OnOk result (keeps (known_of self.old) (deleted (known_of self.old).found ids.now) ≡ Ok (known_of self.new)) }
         ensures err { IfErr result (λ why. why ≢ LratWhy.Memory → keeps (known_of self.old) (deleted (known_of self.old).found ids.now) ≡ Err why) }
         ensures vars { self.new.vars ≡ self.old.vars }
+        ensures marks { self.new.marks ≡ self.old.marks }
+        ensures reach { self.new.reach ≡ self.old.reach }
     {
         for id in ids {
             if !self.table.remove(id.size) {
@@ -115,10 +124,13 @@ impl<'a> Checker<'a> {
 
     /// Adds a clause, if it holds.
     fn add(&mut self, id: u32, lits: &[Signed], hints: &[Signed]) -> Result<(), LratWhy>
-        requires { self.old.vars ≤ 2147483647 }
+        requires vars { self.old.vars ≤ FORMULA_LIMIT }
+        requires near { HasNearTable self.old }
         ensures ok { OnOk result (unless_why (addition_fault self.old.vars (known_of self.old) id lits.now hints.now) (added (known_of self.old) id (clause_of lits.now)) ≡ Ok (known_of self.new)) }
         ensures err { IfErr result (λ why. why ≢ LratWhy.Memory → unless_why (addition_fault self.old.vars (known_of self.old) id lits.now hints.now) (added (known_of self.old) id (clause_of lits.now)) ≡ Err why) }
         ensures vars { self.new.vars ≡ self.old.vars }
+        ensures near { HasNearTable self.new }
+        ensures meets { MeetsAtMost self.old self.new (clause_of lits.now) }
     {
         if id <= self.table.last() {
             return Err(LratWhy::Id);
@@ -142,7 +154,7 @@ impl<'a> Checker<'a> {
 
 /// Reads the literals of a clause in place of those that were in it.
 fn read_clause(vars: u32, lits: &[Signed], clause: &mut Vec<Lit>) -> Result<(), LratWhy>
-    requires vars { vars ≤ 2147483647 }
+    requires vars { vars ≤ FORMULA_LIMIT }
     ensures ok { OnOk result ((range_fault vars lits.now ≡ None) × (clause.new.items ≡ clause_of lits.now)) }
     ensures err { IfErr result (λ why. why ≢ LratWhy.Memory → range_fault vars lits.now ≡ Some why) }
 {
@@ -167,6 +179,7 @@ fn find_conflict(
 ) -> Result<(), LratWhy>
     ensures ok { OnOk result (hints_fault (found_of table.now) (falses_of marks.old) hints.now ≡ None) }
     ensures err { IfErr result (λ why. why ≢ LratWhy.Memory → hints_fault (found_of table.now) (falses_of marks.old) hints.now ≡ Some why) }
+    ensures size { length marks.new.table ≡ length marks.old.table }
 {
     for hint in hints {
         if hint.negative {
@@ -194,7 +207,7 @@ fn find_conflict(
 /// The first line that fails with the first of its causes, or `NoEmpty`. Only `LratWhy::Memory` may come of any text.
 pub fn check_text(alloc: Global, cnf: &Cnf, bytes: &[u8], arena: &Bump) -> Result<(), LratFault>
     requires formula { IsFormula cnf.now }
-    requires limit { length bytes.now ≤ 268435456 }
+    requires limit { length bytes.now ≤ PROOF_FILE_LIMIT }
     ensures ok { OnOk result (text_fault cnf.now bytes.now ≡ None) }
     ensures err { IfErr result (λ fault. fault.why ≢ LratWhy.Memory → text_fault cnf.now bytes.now ≡ Some fault) }
     ensures refutes { OnOk result (¬ (HasSolution cnf.now.clauses)) }
@@ -207,7 +220,7 @@ pub fn check_text(alloc: Global, cnf: &Cnf, bytes: &[u8], arena: &Bump) -> Resul
 /// Checks the lines of a proof.
 fn check_lines(alloc: Global, cnf: &Cnf, bytes: &[u8], arena: &Bump) -> Result<(), LratFault>
     requires formula { IsFormula cnf.now }
-    requires limit { length bytes.now ≤ 268435456 }
+    requires limit { length bytes.now ≤ PROOF_FILE_LIMIT }
     ensures ok { OnOk result (text_fault cnf.now bytes.now ≡ None) }
     ensures err { IfErr result (λ fault. fault.why ≢ LratWhy.Memory → text_fault cnf.now bytes.now ≡ Some fault) }
 {

@@ -9,31 +9,31 @@ use thiserror::Error;
 #[derive(Clone, Copy, Debug, PartialEq, Eq, Error)]
 pub enum LratWhy {
     /// The line is none of the format.
-    #[error("no line of the format")]
+    #[error("syntax")]
     Syntax,
     /// The id is not above those of the formula and of all earlier additions.
-    #[error("the id is not above all earlier ones")]
+    #[error("id")]
     Id,
     /// A literal is of no variable of the formula.
-    #[error("the literal {0} is of no variable")]
+    #[error("range {0}")]
     Range(i64),
     /// No clause has this id, or it was deleted.
     #[error("no clause {0}")]
     NoClause(u32),
     /// A hint has a hyphen.
-    #[error("a RAT hint")]
+    #[error("rat")]
     Rat,
     /// The clause has a literal and its opposite.
-    #[error("a literal and its opposite")]
+    #[error("tautology")]
     Tautology,
     /// The clause of this hint has two open literals or more, and none that is true.
-    #[error("the hint {0} is not unit")]
+    #[error("not unit {0}")]
     NotUnit(u32),
     /// The hints come to their end with no conflict.
     #[error("no conflict")]
     NoConflict,
     /// All lines hold, and none adds the empty clause.
-    #[error("no empty clause")]
+    #[error("no empty")]
     NoEmpty,
     /// There was no memory for the check. It says nothing of the proof.
     #[error("out of memory")]
@@ -44,7 +44,7 @@ pub enum LratWhy {
 ///
 /// At `NoEmpty` the line is the number of lines, and at `Memory` it has no meaning.
 #[derive(Clone, Copy, Debug, PartialEq, Eq, Error)]
-#[error("line {line}: {why}")]
+#[error("{line} {why}")]
 pub struct LratFault {
     pub line: u32,
     pub why: LratWhy,

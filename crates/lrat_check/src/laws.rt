@@ -1,6 +1,7 @@
 //! Laws on texts of proofs: functions that do nothing, whose clauses serve the proofs of their callers.
 ghost use Rattle.std.specs.Prelude.{◌≢◌, ◌↔◌, []};
 ghost use Rattle.clap.specs.Words.{fault_of};
+ghost use Rattle.lrat_check.specs.Breaks.{FaultsBreak};
 ghost use Rattle.lrat_check.specs.Laws.{AdditionsAreSteps, HintsNameClauses};
 ghost use Rattle.lrat_check.specs.Run.{AsksNothing, texts};
 ghost use Rattle.lrat_check.specs.Usage.{lrat_command};
@@ -26,6 +27,12 @@ pub fn ended_log_is_accepted(cnf: &Cnf, log: &ProofLog<'_>)
 pub fn additions_are_steps()
     ensures accepted { AdditionsAreSteps }
     ensures listed { HintsNameClauses }
+{}
+
+/// The fault that `check_text` answers is where the proof breaks, and why, told by its lines, literals and hints: at a line behind lines that
+/// hold, or at the end where none added the empty clause. A proof that breaks nowhere has no fault.
+pub fn faults_break()
+    ensures { FaultsBreak }
 {}
 
 /// The simple command `rsfq_lrat CNF PROOF` refuses words exactly where they ask for nothing. There `lrat_run` answers `Words`, but for

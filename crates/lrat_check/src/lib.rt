@@ -10,13 +10,13 @@ mod laws;
 mod reach;
 mod report;
 mod run;
-#[cfg(test)]
-mod tests;
 mod words;
 mod write;
 
 pub use check::check_text;
 pub use fault::{LratFault, LratWhy};
-pub use laws::{additions_are_steps, ended_log_is_accepted, refused_words_ask_for_nothing};
+pub use laws::{
+    additions_are_steps, ended_log_is_accepted, faults_break, refused_words_ask_for_nothing,
+};
 pub use run::lrat_run;
 pub use write::write_lrat;

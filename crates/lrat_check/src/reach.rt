@@ -1,5 +1,5 @@
 //! How many variables the table of marks is made for.
-ghost use Rattle.std.specs.Prelude.{◌≡◌, ◌+◌, min, max, length};
+ghost use Rattle.std.specs.Prelude.{◌≡◌, ◌≤◌, ◌+◌, min, max, length};
 ghost use Rattle.std.specs.List.{concat};
 ghost use Rattle.lrat_check.specs.Reached.{vars_up_to};
 
@@ -33,6 +33,7 @@ impl Reach {
     pub fn meet(&mut self, clause: &[Lit])
         ensures met { self.new.met ≡ min (self.old.met + length clause.now) 4294967295 }
         ensures vars { self.new.vars ≡ max self.old.vars (vars_up_to clause.now) }
+        ensures more { self.old.met ≤ self.new.met }
     {
         let mut vars = self.vars;
         for lit in clause {

@@ -6,7 +6,8 @@ ghost use Rattle.lrat_check.specs.Report.{cnf_why, cnf_line, proof_why, proof_li
 use crate::check::check_text;
 use crate::fault::{LratFault, LratWhy};
 use bumpalo::Bump;
-use dimacs_text::{TextFault, TextWhy, append_number, read_dimacs};
+use decimal_text::append_number;
+use dimacs_text::{TextFault, TextWhy, read_dimacs};
 use itoa::Buffer;
 use rsfq_ids::list::NoMemory;
 use rsfq_outside::{Reply, Status};

@@ -3,7 +3,8 @@ ghost use Rattle.std.specs.Prelude.{◌≡◌, ◌++◌, length, take, OnOk, OnE
 ghost use Rattle.std.specs.List.{flat_map};
 ghost use Rattle.lrat_check.specs.Written.{spaced_hint, clause_fields, step_line, lrat_of, StandsFor};
 
-use dimacs_text::{append_literals, append_number};
+use decimal_text::append_number;
+use dimacs_text::append_literals;
 use proof_arena::ProofLog;
 use rsfq_ids::circuit::Cnf;
 use rsfq_ids::id::{ClauseId, Id, Lit};

@@ -9,7 +9,7 @@ use Rattle.std.proofs.lemmas.Bool.Decides.{eqb_tells}
 use Rattle.std.proofs.lemmas.List.Folds.{list_all-append}
 use Rattle.std.proofs.lemmas.Slice.Eq.{bytes_eq-Decides}
 use Rattle.dimacs_text.specs.Parts.{Part, words, is_space}
-use Rattle.dimacs_text.specs.Number.{number_up_to}
+use Rattle.decimal_text.specs.Number.{number_up_to}
 use Rattle.dimacs_text.specs.declared.number.Signed.{Signed}
 use Rattle.lrat_lines.specs.Lines.{Line, skipped, broken, addition, deletion, field_of, list_from, list_of, deletion_of, with_hints, addition_of, behind_id, with_id, fields_say, has_outer_space, line_of}
 use Rattle.lrat_lines.specs.Spelled.{WritesId, WritesListed, zero_field, letter_d, HasFields, WritesAddition, WritesDeletion, WritesLine, SpellsLine, LinesAreSpelled}

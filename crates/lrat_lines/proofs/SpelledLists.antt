@@ -8,7 +8,8 @@ use Rattle.std.proofs.lemmas.Bool.{cases_Bool, ne_eqb, and_parts, and_from}
 use Rattle.std.proofs.lemmas.Bool.Decides.{eqb_tells}
 use Rattle.std.proofs.lemmas.Slice.Eq.{bytes_eq-Decides}
 use Rattle.dimacs_text.specs.Parts.{Part, is_space}
-use Rattle.dimacs_text.specs.Number.{is_numeral, number_up_to, signed_of}
+use Rattle.decimal_text.specs.Number.{is_numeral, number_up_to}
+use Rattle.dimacs_text.specs.Number.{signed_of}
 use Rattle.dimacs_text.specs.Spelled.{WritesNumber}
 use Rattle.dimacs_text.specs.declared.number.Signed.{Signed}
 use Rattle.dimacs_text.proofs.Fields.{up_to, up_to_back, number_read, number_written}

@@ -3,7 +3,8 @@ use Rattle.std.specs.Prelude.{ℕ, ◌==◌, ◌-◌, ◌||◌, Bool, if◌then�
 use Rattle.std.specs.List.{list_any}
 use Rattle.std.specs.Str.{bytes_eq}
 use Rattle.dimacs_text.specs.Parts.{Part, words, is_space}
-use Rattle.dimacs_text.specs.Number.{number_up_to, signed_of}
+use Rattle.decimal_text.specs.Number.{number_up_to}
+use Rattle.dimacs_text.specs.Number.{signed_of}
 use Rattle.dimacs_text.specs.declared.number.Signed.{Signed}
 use Rattle.lrat_lines.specs.declared.field.Field.{Field}
 use Rattle.lrat_lines.specs.declared.field.Field.TheVariants.{End, Number, Broken}

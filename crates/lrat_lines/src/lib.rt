@@ -4,8 +4,6 @@
 mod field;
 mod laws;
 mod line;
-#[cfg(test)]
-mod tests;
 
 pub use laws::lines_are_spelled;
 pub use line::{Form, Numbers};

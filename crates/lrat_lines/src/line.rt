@@ -7,7 +7,8 @@ ghost use Rattle.lrat_lines.specs.Lines.{line_of, fields_say, behind_id, additio
 ghost use Rattle.lrat_lines.specs.Forms.{form_of};
 
 use crate::field::read_list;
-use dimacs_text::{Signed, next_field, read_number};
+use decimal_text::read_number;
+use dimacs_text::{Signed, next_field};
 use rsfq_ids::list::NoMemory;
 use std::alloc::Global;
 

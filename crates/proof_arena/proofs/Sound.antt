@@ -10,7 +10,7 @@ use Rattle.std.proofs.lemmas.List.Elements.{All-push, All-tail}
 use Rattle.rsfq_ids.specs.Formula.{Clause, opposite, value_of, Satisfies, HasSolution}
 use Rattle.proof_arena.specs.Step.{reading, reading_of_rest, is_among, makes_false, after_hint, after_clause, ends_in_conflict, StepHolds}
 use Rattle.proof_arena.specs.Log.{LogStep, StepsHold, HasEnded, lits_of}
-use Rattle.proof_arena.specs.Laws.{Agrees, IsTold}
+use Rattle.proof_arena.specs.Laws.{Agrees, IsTrueReading}
 use Rattle.proof_arena.proofs.Marked.{eqb-false}
 
 or_right : (b c : Bool) → b ≡ false → (b || c) ≡ true → c ≡ true
@@ -194,7 +194,7 @@ ended_refutes vars given steps hold ended solution =
     (all_second (Satisfies solution.0) given (lits_of steps) (steps_sound solution.0 vars given steps hold solution.1))
 
 -- what is left of a satisfied clause
-rest_told : (values falses : ℕ → Bool) → Agrees values falses → (left : Clause) → list_any (value_of values) left ≡ true → IsTold values falses (reading_of_rest falses left)
+rest_told : (values falses : ℕ → Bool) → Agrees values falses → (left : Clause) → list_any (value_of values) left ≡ true → IsTrueReading values falses (reading_of_rest falses left)
 rest_told values falses agrees [] is = no_true is
 rest_told values falses agrees (lit ∷ left) is = elim (cases_Bool (list_any (λ l. falses (opposite l)) (lit ∷ left))) [
   | inl passed ↦ rw passed tt
@@ -204,6 +204,6 @@ rest_told values falses agrees (lit ∷ left) is = elim (cases_Bool (list_any (�
   ]
 ]
 
-pub reading_told : (values falses : ℕ → Bool) (clause : Clause) → list_any (value_of values) clause ≡ true → Agrees values falses → IsTold values falses (reading falses clause)
+pub reading_told : (values falses : ℕ → Bool) (clause : Clause) → list_any (value_of values) clause ≡ true → Agrees values falses → IsTrueReading values falses (reading falses clause)
 reading_told values falses clause is agrees =
     rest_told values falses agrees (filter (λ lit. not (falses lit)) clause) (kept values falses agrees clause is)

@@ -11,24 +11,24 @@ use Rattle.std.proofs.lemmas.List.Elements.{All-cons, All-append}
 use Rattle.std.proofs.lemmas.Option.{slice_get_within, get_or_from_slice_get}
 use Rattle.rsfq_ids.specs.Formula.{Clause, IsOver}
 use Rattle.proof_arena.specs.Step.{StepHolds}
-use Rattle.proof_arena.specs.Log.{Log, LogStep, IsStep, StepsHold, HasEnded, clauses_of, lits_of}
-use Rattle.proof_arena.specs.Held.{log_of, step_of, IsSound}
+use Rattle.proof_arena.specs.Log.{Log, LogStep, IsLogStep, StepsHold, HasEnded, clauses_of, lits_of}
+use Rattle.proof_arena.specs.Held.{log_of, step_of, IsArena}
 use Rattle.proof_arena.specs.declared.log.Step.{Step}
 use Rattle.proof_arena.specs.declared.log.ProofLog.TheInside.{Inside}
 
 -- one more step, which holds against all before it
 pub StepsHold-push : (vars : ℕ) (before : List Clause) (steps : List LogStep) (s : LogStep) → StepsHold vars before steps
-    → IsStep vars (before ++ lits_of steps) s → StepsHold vars before (steps ++ s ∷ [])
-StepsHold-push vars before [] s all one = (subst (λ (b : List Clause). IsStep vars b s) (append-nil before) one, tt)
+    → IsLogStep vars (before ++ lits_of steps) s → StepsHold vars before (steps ++ s ∷ [])
+StepsHold-push vars before [] s all one = (subst (λ (b : List Clause). IsLogStep vars b s) (append-nil before) one, tt)
 StepsHold-push vars before (x ∷ xs) s all one = (
   all.0,
   StepsHold-push vars (before ++ x.lits ∷ []) xs s all.1
-      (subst (λ (b : List Clause). IsStep vars b s) (sym (append_assoc before (x.lits ∷ []) (lits_of xs))) one),
+      (subst (λ (b : List Clause). IsLogStep vars b s) (sym (append_assoc before (x.lits ∷ []) (lits_of xs))) one),
 )
 
 -- the steps after a push that may have failed
 pub pushed_holds : (vars : ℕ) (before : List Clause) (old new : List Step) (b : Bool) (s : Step) → new ≡ cond b (old ++ s ∷ []) old
-    → StepsHold vars before (map step_of old) → IsStep vars (before ++ lits_of (map step_of old)) (step_of s) → StepsHold vars before (map step_of new)
+    → StepsHold vars before (map step_of old) → IsLogStep vars (before ++ lits_of (map step_of old)) (step_of s) → StepsHold vars before (map step_of new)
 pushed_holds vars before old new true s is all one = rw (is, map-append step_of old (s ∷ [])) (StepsHold-push vars before (map step_of old) (step_of s) all one)
 pushed_holds vars before old new false s is all one = rw is all
 
@@ -84,7 +84,7 @@ steps_over vars before (s ∷ steps) hold =
     All-cons (IsOver vars) s.lits (lits_of steps) (step_over vars before s hold.0.holds) (steps_over vars (before ++ s.lits ∷ []) steps hold.1)
 
 -- each clause of a log is over the formula's variables
-pub clause_over : (a : Inside) → IsSound a → (log : Log) → log_of a ≡ log → (k : ℕ) (lits : Clause) → slice_get (clauses_of log) k ≡ Some lits → IsOver log.vars lits
+pub clause_over : (a : Inside) → IsArena a → (log : Log) → log_of a ≡ log → (k : ℕ) (lits : Clause) → slice_get (clauses_of log) k ≡ Some lits → IsOver log.vars lits
 clause_over a sound log view k lits is =
     let all : All (IsOver (log_of a).vars) (clauses_of (log_of a)) =
     All-append (IsOver a.cnf.now.vars) a.cnf.now.clauses (lits_of (map step_of a.steps.items)) sound.formula.lits

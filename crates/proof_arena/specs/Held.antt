@@ -12,7 +12,7 @@ abbrev pub log_of : Inside → Log
 log_of a = record { vars = a.cnf.now.vars; given = a.cnf.now.clauses; steps = map step_of a.steps.items }
 
 -- each step holds, and the numbers of the clauses fit
-pub record IsSound (a : Inside) : Type 0 where
+pub record IsArena (a : Inside) : Type 0 where
   pub holds : StepsHold a.cnf.now.vars a.cnf.now.clauses (map step_of a.steps.items)
   pub fits : length (clauses_of (log_of a)) < 2 ^ 32
   pub formula : IsFormula a.cnf.now

@@ -11,15 +11,15 @@ abbrev pub Agrees : (ℕ → Bool) → (ℕ → Bool) → Type 0
 Agrees values falses = (lit : ℕ) → falses lit ≡ true → value_of values lit ≡ false
 
 -- what a reading says of values that satisfy the clause
-abbrev pub IsTold : (ℕ → Bool) → (ℕ → Bool) → HintReading → Type 0
-IsTold values falses Conflict = ⊥
-IsTold values falses Passed = ⊤
-IsTold values falses (UnitLit lit) = Agrees values (makes_false falses (opposite lit))
-IsTold values falses NotUnit = ⊤
+abbrev pub IsTrueReading : (ℕ → Bool) → (ℕ → Bool) → HintReading → Type 0
+IsTrueReading values falses Conflict = ⊥
+IsTrueReading values falses Passed = ⊤
+IsTrueReading values falses (UnitLit lit) = Agrees values (makes_false falses (opposite lit))
+IsTrueReading values falses NotUnit = ⊤
 
 -- a satisfied clause is no conflict, and its one open literal is true
 abbrev pub ReadingsAreSound : Type 0
-ReadingsAreSound = (values falses : ℕ → Bool) (clause : Clause) → Satisfies values clause → Agrees values falses → IsTold values falses (reading falses clause)
+ReadingsAreSound = (values falses : ℕ → Bool) (clause : Clause) → Satisfies values clause → Agrees values falses → IsTrueReading values falses (reading falses clause)
 
 -- the literals of a clause that is not satisfied are false
 abbrev pub DenialsAreSound : Type 0

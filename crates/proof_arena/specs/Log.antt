@@ -22,14 +22,14 @@ abbrev pub clauses_of : Log → List Clause
 clauses_of log = log.given ++ lits_of log.steps
 
 -- a step holds against the clauses before it, and the printed number of each of its hints, which is one more, is at most 4,294,967,295, also behind the conflict
-pub record IsStep (vars : ℕ) (before : List Clause) (step : LogStep) : Type 0 where
+pub record IsLogStep (vars : ℕ) (before : List Clause) (step : LogStep) : Type 0 where
   pub holds : StepHolds vars before step.lits step.hints
   pub printed : All (λ hint. hint < 2 ^ 32 - 1) step.hints
 
 -- and so does each step
 abbrev pub StepsHold : ℕ → List Clause → List LogStep → Type 0
 StepsHold vars before [] = ⊤
-StepsHold vars before (step ∷ rest) = IsStep vars before step × StepsHold vars (before ++ step.lits ∷ []) rest
+StepsHold vars before (step ∷ rest) = IsLogStep vars before step × StepsHold vars (before ++ step.lits ∷ []) rest
 
 -- each assignment that satisfies the clauses given satisfies all clauses of the log
 abbrev pub ClausesFollow : Log → Type 0

@@ -10,8 +10,6 @@ mod laws;
 mod log;
 mod marks;
 mod step;
-#[cfg(test)]
-mod tests;
 
 pub use answer::Answer;
 pub use hint::HintReading;

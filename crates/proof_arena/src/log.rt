@@ -35,11 +35,11 @@ impl<'a> Model for ProofLog<'a> {
 
     ghost Value = { Log };
 
-    ghost use Rattle.proof_arena.specs.Held.{log_of, IsSound};
+    ghost use Rattle.proof_arena.specs.Held.{log_of, IsArena};
 
     ghost view = { log_of };
 
-    ghost invariant = { IsSound };
+    ghost invariant = { IsArena };
 }
 
 impl<'a> ProofLog<'a> {

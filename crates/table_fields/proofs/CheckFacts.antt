@@ -1,5 +1,6 @@
 -- What a field of digits and a front of good fields say of the checks.
 use Rattle.std.proofs.Common.{◌≡◌, ◌∙◌, ℕ, zero, suc, zero-add, add-zero, ◌+◌, ◌<◌, ◌≤◌, ◌&&◌, Bool, true, false, not, sym, refl, ap, arith, List, [], ◌∷◌, length, map, get_or, Option, Some, None, Result, Ok, Err, eqb}
+use Rattle.rsfq_ids.specs.declared.limits.TheConstants.{TIME_LIMIT}
 use Rattle.std.proofs.lemmas.Bool.{eqb-false, ne_eqb}
 use Rattle.std.specs.Prelude.{nat_le}
 use Rattle.std.specs.List.{list_all, range_with_len}
@@ -62,22 +63,22 @@ time_within column least text b numeral within =
     alone true = refl
     alone false = refl
 
-range_false : (least value : ℕ) → (value < least) → (nat_le least value && nat_le value 1000000000) ≡ false
+range_false : (least value : ℕ) → (value < least) → (nat_le least value && nat_le value TIME_LIMIT) ≡ false
 range_false least value less = grind arith
 
-range_far : (least value : ℕ) → (1000000000 < value) → (nat_le least value && nat_le value 1000000000) ≡ false
+range_far : (least value : ℕ) → (TIME_LIMIT < value) → (nat_le least value && nat_le value TIME_LIMIT) ≡ false
 range_far least value less = grind arith
 
-range_true : (least value : ℕ) → least ≤ value → value ≤ 1000000000 → (nat_le least value && nat_le value 1000000000) ≡ true
+range_true : (least value : ℕ) → least ≤ value → value ≤ TIME_LIMIT → (nat_le least value && nat_le value TIME_LIMIT) ≡ true
 range_true least value low high = grind arith
 
 pub time_small : (column least : ℕ) (text : List ℕ) → IsNumeral 10 text → digits_value 10 text < least → time_fault column least text ≡ Some (OutOfRange column)
 time_small column least text numeral less = time_within column least text false numeral (range_false least (digits_value 10 text) less)
 
-pub time_large : (column least : ℕ) (text : List ℕ) → IsNumeral 10 text → 1000000000 < digits_value 10 text → time_fault column least text ≡ Some (OutOfRange column)
+pub time_large : (column least : ℕ) (text : List ℕ) → IsNumeral 10 text → TIME_LIMIT < digits_value 10 text → time_fault column least text ≡ Some (OutOfRange column)
 time_large column least text numeral less = time_within column least text false numeral (range_far least (digits_value 10 text) less)
 
-pub time_good : (column least : ℕ) (text : List ℕ) → IsNumeral 10 text → least ≤ digits_value 10 text → digits_value 10 text ≤ 1000000000 → time_fault column least text ≡ None
+pub time_good : (column least : ℕ) (text : List ℕ) → IsNumeral 10 text → least ≤ digits_value 10 text → digits_value 10 text ≤ TIME_LIMIT → time_fault column least text ≡ None
 time_good column least text numeral low high = time_within column least text true numeral (range_true least (digits_value 10 text) low high)
 
 pub no_time : (column least : ℕ) (text : List ℕ) → time_fault column least text ≡ None → (is_number text ≡ true) × (is_in_range least text ≡ true)

@@ -1,6 +1,5 @@
 pub mod CheckFacts
 pub mod FieldList
-pub mod NameFacts
 pub mod PlaceFacts
 pub mod Places
 pub mod RecordList

@@ -1,4 +1,2 @@
 pub mod Names
-pub mod Numbers
 pub mod Records
-pub mod PlaceMap

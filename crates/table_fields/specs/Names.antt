@@ -1,7 +1,7 @@
 -- Plain names, as a netlist's text has them.
 --
 -- Section 3.7 of IEEE Std 1364-2005 has the form of identifiers, and 3.7.2 the keywords.
-use Rattle.std.specs.Prelude.{ℕ, Bool, ◌||◌, ◌&&◌, not, List, [], ◌∷◌, ◌++◌, ◌==◌, codes, Option, if◌then◌else◌, position, length, slice_index}
+use Rattle.std.specs.Prelude.{ℕ, Bool, ◌||◌, ◌&&◌, not, List, [], ◌∷◌, ◌==◌, codes, length, slice_index}
 use Rattle.std.specs.List.{list_any, list_all}
 use Rattle.std.specs.Char.{is_ascii_digit, is_ascii_alphabetic}
 use Rattle.std.specs.Str.{bytes_eq}
@@ -27,13 +27,3 @@ has_form word = not (length word == 0) && is_start (slice_index word 0) && list_
 -- a plain name that is not reserved
 abbrev pub is_plain_name : List ℕ → Bool
 is_plain_name word = has_form word && not (is_reserved word)
-
--- ---- names in the order in which they were first seen
-
--- the names after one more was seen
-abbrev pub with_name : List (List ℕ) → List ℕ → List (List ℕ)
-with_name names name = if list_any (bytes_eq name) names then names else names ++ name ∷ []
-
--- the place of a name, if it was seen
-abbrev pub place_of : List (List ℕ) → List ℕ → Option ℕ
-place_of names name = position (bytes_eq name) names

@@ -1,5 +1,6 @@
 -- The records of a table and the causes for which one is refused.
 use Rattle.std.specs.Prelude.{◌≡◌, ◌≢◌, ◌==◌, ℕ, Bool, not, ◌&&◌, nat_le, if◌then◌else◌, List, [], ◌∷◌, length, slice_index_or, Option, Some, None, ℤ, pos}
+use Rattle.rsfq_ids.specs.declared.limits.TheConstants.{TIME_LIMIT}
 use Rattle.std.specs.List.{list_all, range_with_len}
 use Rattle.std.specs.Str.{all_ascii_digits, bytes_eq, is_utf8}
 use Rattle.std.specs.Str.Parse.{digits_value}
@@ -54,7 +55,7 @@ time_of text = pos (digits_value 10 text)
 
 -- the number of a text lies within the limits of a table
 abbrev pub is_in_range : ℕ → List ℕ → Bool
-is_in_range least text = nat_le least (digits_value 10 text) && nat_le (digits_value 10 text) 1000000000
+is_in_range least text = nat_le least (digits_value 10 text) && nat_le (digits_value 10 text) TIME_LIMIT
 
 -- the field of a column is the number of a time of at least so many femtoseconds
 abbrev pub time_fault : ℕ → ℕ → List ℕ → Option TableWhy

@@ -5,13 +5,11 @@ ghost use Rattle.std.specs.Str.{bytes_eq, is_utf8};
 ghost use Rattle.csv.specs.Records.{fields_of};
 ghost use Rattle.table_fields.specs.Records.{are_fields, count_fault, empty_fault, head_fault, text_fault, time_fault, time_of};
 
-use crate::numbers::{NumberRead, read_number};
 use crate::records::field_at;
 use csv::ByteRecord;
+use decimal_text::{NumberRead, read_digits};
+use rsfq_ids::limits::TIME_LIMIT;
 use rsfq_ids::table_fault::TableWhy;
-
-/// The greatest time of a table, in femtoseconds.
-pub const LONGEST: u64 = 1_000_000_000;
 
 fn is_text(field: &[u8]) -> bool
     ensures { result ≡ is_utf8 field.now }
@@ -51,7 +49,7 @@ pub fn read_time(field: &[u8], column: u32, least: u64) -> Result<i64, TableWhy>
     ensures time { IfOk result (λ time. (time_fault column least field.now ≡ None) × (time ≡ time_of field.now)) }
     ensures fault { IfErr result (λ why. time_fault column least field.now ≡ Some why) }
 {
-    match read_number(field, LONGEST) {
+    match read_digits(field, TIME_LIMIT) {
         NumberRead::Malformed => Err(TableWhy::Number(column)),
         NumberRead::TooLarge => Err(TableWhy::OutOfRange(column)),
         NumberRead::Value(number) => {
@@ -107,37 +105,4 @@ pub fn check_head(fields: &ByteRecord, head: &[&str]) -> Result<(), TableWhy>
         return Err(TableWhy::Header);
     }
     Ok(())
-}
-
-#[cfg(test)]
-mod tests {
-    use crate::checks::{check_head, read_time};
-    use crate::name_table::NameTable;
-    use crate::names::is_plain_name;
-    use crate::records::read_records;
-    use rsfq_ids::table_fault::TableWhy;
-    use std::test::Fail;
-
-    #[test]
-    fn records_fields_and_names(rt: HostRuntime) -> Result<(), Fail> {
-        let Ok(records) = read_records(rt.alloc(), b"\na,b\n\n\"c d\",e,f") else {
-            panic!(rt; "no memory");
-        };
-        assert_eq!(rt; records.len(), 2);
-        assert!(rt; check_head(&records[0], &["a", "b"]).is_ok());
-        assert!(rt; check_head(&records[1], &["c d", "e"]).is_err());
-        assert_eq!(rt; read_time(b"007", 3, 0), Ok(7));
-        assert_eq!(rt;
-            read_time(b"1000000001", 3, 0),
-            Err(TableWhy::OutOfRange(3))
-        );
-        assert!(rt; is_plain_name(b"_a$9"));
-        assert!(rt; !is_plain_name(b"task"));
-        let mut names = NameTable::new(rt.alloc());
-        assert!(rt; names.see("x").is_ok());
-        assert!(rt; names.see("y").is_ok());
-        assert_eq!(rt; names.place("y"), Some(1));
-        assert_eq!(rt; names.place("z"), None);
-        Ok(())
-    }
 }

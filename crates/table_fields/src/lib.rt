@@ -2,7 +2,5 @@
 #![tactic(auto)]
 
 pub mod checks;
-pub mod name_table;
 pub mod names;
-mod numbers;
 pub mod records;

@@ -1,6 +1,6 @@
 use Rattle.std.proofs.Common.{subst}
-use Rattle.and_order.specs.declared.listing.Listing.{Listing}
-use Rattle.and_order.specs.Renaming.{IsOrdered}
+use Rattle.aiger_order.specs.declared.listing.Listing.{Listing}
+use Rattle.aiger_order.specs.Renaming.{IsOrdered}
 use Rattle.aiger_read.proofs.ascii.order_text.Goals as goal
 
 pub returns-in-Ok-renumber-clause-order : goal.returns-in-Ok-renumber-clause-order

@@ -1,7 +1,7 @@
 use Rattle.std.proofs.Common.{◌≡◌, ◌∙◌, ◌++◌, ◌∷◌, ◌+◌, ℕ, List, suc, [], sym, ap, arith, rules, add-one, map, get_or}
 use Rattle.std.proofs.lemmas.List.{length-map}
 use Rattle.csv.specs.Records.{fields_of}
-use Rattle.table_fields.specs.Names.{with_name}
+use Rattle.name_table.specs.Names.{with_name}
 use Rattle.table_fields.specs.Records.{field}
 use Rattle.cell_table.specs.Cells.{first_names}
 use Rattle.table_fields.proofs.RowLists.{read_at}

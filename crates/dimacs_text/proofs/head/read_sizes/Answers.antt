@@ -1,5 +1,5 @@
 use Rattle.std.proofs.Common.{◌∙◌, ◌+◌, ◌≡◌, ◌<◌, ap, sym, arith, take, drop, length, Some, None}
-use Rattle.dimacs_text.specs.Number.{number_up_to}
+use Rattle.decimal_text.specs.Number.{number_up_to}
 use Rattle.dimacs_text.proofs.PartLemmas.{rest_is}
 use Rattle.dimacs_text.proofs.HeadSays.{no_vars, no_space, no_count, both_counts}
 use Rattle.dimacs_text.proofs.head.read_sizes.Goals as goal

@@ -6,7 +6,7 @@ use Rattle.rsfq_ids.specs.declared.circuit.Bench.{Bench}
 use Rattle.rsfq_ids.specs.WellFormed.{AreDistinct, IsBench}
 use Rattle.golden_aig.specs.declared.graph.Aig.{Aig}
 use Rattle.golden_aig.specs.declared.pairing.PortFault.{PortFault}
-use Rattle.golden_aig.specs.Matched.{HasNoMatch, IsRefusal, MatchesNone}
+use Rattle.golden_aig.specs.Matched.{HasNoMatch, MemoryOr, MatchesNone}
 use Rattle.golden_aig.proofs.NoMatch.{data_side, output_side, none_refused}
 use Rattle.golden_aig.proofs.matching.match_ports.Goals as goal
 
@@ -17,7 +17,7 @@ pub match_side-requires-2 : goal.match_side-requires-2
 match_side-requires-2 c = subst (All (λ (port : ℕ). port < length c.args.flat.now.ports)) (sym c.in_ok-list_outputs.ensures.ok) (output_side c.args.flat.now).inside
 
 none_then : {T : Type 0} (r : Result T PortFault) (aig : Aig) (flat : Flat) (bench : Bench) → AreDistinct (map (λ (port : PortBit). port.name) flat.ports) → IsBench flat bench
-    → IfErr r (λ why. IsRefusal why (HasNoMatch aig flat bench why)) → IfErr r (MatchesNone aig flat bench)
+    → IfErr r (λ why. MemoryOr why (HasNoMatch aig flat bench why)) → IfErr r (MatchesNone aig flat bench)
 none_then (Ok x) aig flat bench apart ok cause = tt
 none_then (Err why) aig flat bench apart ok cause = none_refused aig flat bench why apart ok cause
 

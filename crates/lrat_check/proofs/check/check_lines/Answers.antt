@@ -8,5 +8,6 @@ more-init c = record {
   within = omega arith;
   count = omega arith;
   vars = c.in_ok-checker.ensures.known.0;
+  near = c.in_ok-checker.ensures.near;
   rest = ap (λ (known : Known). lines_fault c.args.cnf.now.vars known 0 (lines 0 c.args.bytes.now)) (sym c.in_ok-checker.ensures.known.1);
 }

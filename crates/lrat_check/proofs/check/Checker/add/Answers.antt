@@ -1,10 +1,11 @@
-use Rattle.std.proofs.Common.{◌≡◌, ◌∙◌, Bool, ℕ, ap, sym, refl, arith, Ok}
+use Rattle.std.proofs.Common.{◌≡◌, ◌∙◌, Bool, ℕ, ap, sym, refl, arith, length, Ok}
 use Rattle.std.proofs.lemmas.Result.{err_from_is_err_and}
-use Rattle.proof_arena.specs.Table.{falses_of}
-use Rattle.clause_table.specs.Found.{with_clause}
+use Rattle.proof_arena.specs.Table.{Marked, falses_of}
+use Rattle.lrat_table.specs.Found.{with_clause}
 use Rattle.lrat_check.specs.Check.{clause_of, hints_fault, unless_why, added, Known}
-use Rattle.clause_table.specs.Entries.{found_of, last_of}
+use Rattle.lrat_table.specs.Entries.{found_of, last_of}
 use Rattle.lrat_check.specs.Tables.{known_of}
+use Rattle.lrat_check.proofs.NearTables.{still_near, grown_near}
 use Rattle.lrat_check.proofs.CheckSays.{is_tautologous, is_judged, denied, told, added_as, none_of}
 use Rattle.lrat_check.proofs.check.Checker.add.Goals as goal
 use Rattle.lrat_check.proofs.check.Checker.add.Goals.{then-self, else-self}
@@ -50,3 +51,30 @@ returns-clause-ok c =
       | then-self w ↦ w.self-is ∙ sym (rw w.if-self.true refl)
       | else-self w ↦ w.self-is ∙ (w.is_empty-self.ensures ∙ (none_of c.args.lits.now ∙ sym (rw w.if-self.false refl)))
     ]))
+
+pub returns-in_err-clear_for-clause-near : goal.returns-in_err-clear_for-clause-near
+returns-in_err-clear_for-clause-near c = still_near _ _ _ _ _ _ _ c.requires.near c.meet.ensures.more c.meet.ensures.vars (ap (λ (m : Marked). length m.table) c.in_err-clear_for.ensures.kept)
+
+pub returns-in_err-deny_any-clause-near : goal.returns-in_err-deny_any-clause-near
+returns-in_err-deny_any-clause-near c =
+    grown_near _ _ _ _ _ _ _ _ c.requires.near c.meet.ensures.more c.meet.ensures.vars c.near.ensures (c.in_err-deny_any.ensures.size ∙ c.in_ok-clear_for.ensures.size)
+
+pub returns-then-has_true-clause-near : goal.returns-then-has_true-clause-near
+returns-then-has_true-clause-near c =
+    grown_near _ _ _ _ _ _ _ _ c.requires.near c.meet.ensures.more c.meet.ensures.vars c.near.ensures (c.in_ok-deny_any.ensures.size ∙ c.in_ok-clear_for.ensures.size)
+
+pub returns-in_err-find_conflict-clause-near : goal.returns-in_err-find_conflict-clause-near
+returns-in_err-find_conflict-clause-near c =
+    grown_near _ _ _ _ _ _ _ _ c.requires.near c.meet.ensures.more c.meet.ensures.vars c.near.ensures (c.find_conflict.ensures.size ∙ (c.in_ok-deny_any.ensures.size ∙ c.in_ok-clear_for.ensures.size))
+
+pub returns-in_default-clause-near : goal.returns-in_default-clause-near
+returns-in_default-clause-near c =
+    grown_near _ _ _ _ _ _ _ _ c.requires.near c.meet.ensures.more c.meet.ensures.vars c.near.ensures (c.find_conflict.ensures.size ∙ (c.in_ok-deny_any.ensures.size ∙ c.in_ok-clear_for.ensures.size))
+
+pub returns-in_err-add-clause-near : goal.returns-in_err-add-clause-near
+returns-in_err-add-clause-near c =
+    grown_near _ _ _ _ _ _ _ _ c.requires.near c.meet.ensures.more c.meet.ensures.vars c.near.ensures (c.find_conflict.ensures.size ∙ (c.in_ok-deny_any.ensures.size ∙ c.in_ok-clear_for.ensures.size))
+
+pub returns-clause-near : goal.returns-clause-near
+returns-clause-near c =
+    grown_near _ _ _ _ _ _ _ _ c.requires.near c.meet.ensures.more c.meet.ensures.vars c.near.ensures (c.find_conflict.ensures.size ∙ (c.in_ok-deny_any.ensures.size ∙ c.in_ok-clear_for.ensures.size))

@@ -1,8 +1,8 @@
 use Rattle.std.proofs.Common.{◌∙◌, ◌+◌, ap, sym, drop, get_or, false}
 use Rattle.dimacs_text.specs.declared.number.Signed.{Signed}
-use Rattle.clause_table.specs.Found.{Found}
+use Rattle.lrat_table.specs.Found.{Found}
 use Rattle.lrat_check.specs.Check.{deleted}
-use Rattle.clause_table.specs.Entries.{found_of}
+use Rattle.lrat_table.specs.Entries.{found_of}
 use Rattle.lrat_check.proofs.CheckSays.{one_deleted, next_number}
 use Rattle.lrat_check.proofs.check.Checker.delete.Goals as goal
 
@@ -12,6 +12,8 @@ zero_number = record { negative = false; size = 0 }
 pub loop-id-preserved : goal.loop-id-preserved
 loop-id-preserved c = record {
   vars = c.loop-id.invariant.vars;
+  marks = c.loop-id.invariant.marks;
+  reach = c.loop-id.invariant.reach;
   last = c.remove.ensures.last ∙ c.loop-id.invariant.last;
   refuted = c.loop-id.invariant.refuted;
   rest = c.loop-id.invariant.rest

@@ -1,5 +1,5 @@
 use Rattle.std.proofs.Common.{refl}
-use Rattle.clause_table.specs.Entries.{found_of, last_of}
+use Rattle.lrat_table.specs.Entries.{found_of, last_of}
 use Rattle.lrat_check.proofs.CheckSays.{first_known}
 use Rattle.lrat_check.proofs.check.Checker.new.Goals as goal
 

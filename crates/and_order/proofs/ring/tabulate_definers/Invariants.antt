@@ -1,5 +1,0 @@
-use Rattle.and_order.specs.Ring.{AreDefiners}
-use Rattle.and_order.proofs.ring.tabulate_definers.Given as goal
-
-abbrev pub invariant-loop-place : goal.invariant-loop-place
-invariant-loop-place l = AreDefiners l.top l.place l.lines l.definers.items

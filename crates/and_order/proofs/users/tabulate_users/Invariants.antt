@@ -1,5 +1,0 @@
-use Rattle.and_order.specs.Users.{lists_of, AreUsers}
-use Rattle.and_order.proofs.users.tabulate_users.Given as goal
-
-abbrev pub invariant-loop-place : goal.invariant-loop-place
-invariant-loop-place l = AreUsers l.top l.place l.lines (lists_of l.users.items)

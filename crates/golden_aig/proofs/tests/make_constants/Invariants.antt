@@ -1,6 +1,0 @@
-use Rattle.std.proofs.Common.{◌≡◌}
-use Rattle.std.specs.Prelude.{replicate}
-use Rattle.golden_aig.proofs.tests.make_constants.Given as goal
-
-abbrev pub invariant-loop : goal.invariant-loop
-invariant-loop l = l.literals ≡ replicate l.counter 0
