@@ -1,0 +1,11 @@
+pub mod Trail
+pub mod Oldest
+pub mod Kept
+pub mod Queued
+pub mod Places
+pub mod Search
+pub mod Watch
+pub mod Cores
+pub mod Analysis
+pub mod Analysed
+pub mod State

@@ -1,0 +1,12 @@
+pub mod Lists
+pub mod Clauses
+pub mod Watching
+pub mod Looking
+pub mod Passes
+pub mod Tables
+pub mod Words
+pub mod Leaves
+pub mod Splits
+pub mod Halves
+pub mod Whole
+pub mod Traces
