@@ -1,0 +1,13 @@
+pub mod Gates
+pub mod Forest
+pub mod Held
+pub mod Paths
+pub mod Lanes
+pub mod Growth
+pub mod Faults
+pub mod Pins
+pub mod Table
+pub mod Kept
+pub mod Left
+pub mod Pulses
+pub mod Statements

@@ -1,0 +1,13 @@
+use Rattle.std.proofs.Common.{◌≡◌, ◌≤◌, take}
+use Rattle.std.specs.List.{count_by}
+use Rattle.rsfq_ids.specs.declared.circuit.Bench.{Bench}
+use Rattle.rsfq_ids.specs.Circuit.{is_gate}
+use Rattle.rsfq_ids.specs.Path.{passes}
+use Rattle.rsfq_ids.specs.Design.{design_of}
+use Rattle.offence_check.proofs.path.count_gates.Given as goal
+
+abbrev pub invariant-loop-arc : goal.invariant-loop-arc
+invariant-loop-arc l = record {
+  small : l.count ≤ l.arc-index;
+  counted : (bench : Bench) → l.count ≡ count_by (passes is_gate (design_of l.table l.flat bench)) (take l.arc-index l.arcs);
+}
