@@ -12,14 +12,14 @@ use Rattle.verilog_lex.specs.Words as lex
 use Rattle.verilog_tree.specs.Words.{Word, meaning, words}
 use Rattle.verilog_tree.specs.Trees.{Module}
 use Rattle.verilog_tree.specs.Spelling.{SpellsSource}
-use Rattle.verilog_tree.specs.Fault.{BeginsTree, IsFault}
-use Rattle.bound_source.specs.declared.bound.Bound.{Bound}
-use Rattle.bound_source.specs.declared.fault.BindFault.{BindFault}
-use Rattle.bound_source.specs.declared.fault.BindFault.TheVariants as bind_fault
-use Rattle.bound_source.specs.Modules.{setting}
-use Rattle.bound_source.specs.Binds.{Binds}
-use Rattle.bound_source.specs.First.{HasNoFault, IsFirstFault}
-use Rattle.bound_laws.specs.Refusals.{FaultIsOne}
+use Rattle.verilog_tree.specs.Fault.{BeginsTree, IsParseFault}
+use Rattle.bind_forms.specs.declared.bound.Bound.{Bound}
+use Rattle.bind_forms.specs.declared.fault.BindFault.{BindFault}
+use Rattle.bind_forms.specs.declared.fault.BindFault.TheVariants as bind_fault
+use Rattle.bind_forms.specs.Modules.{setting}
+use Rattle.bind_forms.specs.Binds.{Binds}
+use Rattle.bind_forms.specs.First.{HasNoFault, IsFirstFault}
+use Rattle.bind_laws.specs.Refusals.{FaultIsOne}
 use Rattle.flattener.specs.declared.fault.FlatFault.{FlatFault}
 use Rattle.flattener.specs.declared.fault.FlatFault.TheVariants as flat_fault
 use Rattle.flattener.specs.Refused as flattening
@@ -60,14 +60,14 @@ begins_fewer : (vs : List lex.Word) (n k : ℕ) → n ≤ k → lex.AreSpelled v
 unfolding Fewer
 begins_fewer vs n k le s b = let r = fewer vs n k b.1 le s b.2 in (b.0, r.0, r.1, subst (SpellsSource b.0) (sym r.2) b.3)
 
-not_past : (vs : List lex.Word) (one other : ℕ) → lex.AreSpelled vs → IsFault (map meaning vs) one → IsFault (map meaning vs) other → one < other → ⊥
+not_past : (vs : List lex.Word) (one other : ℕ) → lex.AreSpelled vs → IsParseFault (map meaning vs) one → IsParseFault (map meaning vs) other → one < other → ⊥
 not_past vs one other s f g less =
     let within = g.within in
     let there : one < length (map meaning vs) = omega (arith, less, within) in
     let next : one + 1 ≤ other = omega (arith, less) in
     f.there there (begins_fewer vs (one + 1) other next s g.before)
 
-place_one : (vs : List lex.Word) (one other : ℕ) → lex.AreSpelled vs → IsFault (map meaning vs) one → IsFault (map meaning vs) other → one ≡ other
+place_one : (vs : List lex.Word) (one other : ℕ) → lex.AreSpelled vs → IsParseFault (map meaning vs) one → IsParseFault (map meaning vs) other → one ≡ other
 place_one vs one other s f g = elim (cases_order one other) [
   | inl same ↦ same
   | inr apart ↦ elim apart [
@@ -76,14 +76,14 @@ place_one vs one other s f g = elim (cases_order one other) [
   ]
 ]
 
-pub parse_agrees : (text : List ℕ) (tokens : List Token) (number : ℕ) → IsOnlyReading text tokens → lex.AreSpelled (lex.words_of text tokens) → IsFault (words text tokens) number → (other : Refusal) → other ≢ refusal.Memory → HasNoTreeFor text other →
+pub parse_agrees : (text : List ℕ) (tokens : List Token) (number : ℕ) → IsOnlyReading text tokens → lex.AreSpelled (lex.words_of text tokens) → IsParseFault (words text tokens) number → (other : Refusal) → other ≢ refusal.Memory → HasNoTreeFor text other →
     refusal.Parse (token_place text tokens number) ≡ other
 parse_agrees text tokens number reading spelled fault (refusal.Lex other) named is = absurd (is.no_reading tokens reading.reads)
 parse_agrees text tokens number reading spelled fault (refusal.Parse place) named is =
     let same : is.tokens ≡ tokens = reading.only is.tokens is.reading.reads in
-    let moved : IsFault (words text tokens) is.number = subst (λ (ts : List Token). IsFault (words text ts) is.number) same is.fault in
+    let moved : IsParseFault (words text tokens) is.number = subst (λ (ts : List Token). IsParseFault (words text ts) is.number) same is.fault in
     let back = sym (meanings text tokens) in
-    let number_is : number ≡ is.number = place_one (lex.words_of text tokens) number is.number spelled (subst (λ (ws : List Word). IsFault ws number) back fault) (subst (λ (ws : List Word). IsFault ws is.number) back moved) in
+    let number_is : number ≡ is.number = place_one (lex.words_of text tokens) number is.number spelled (subst (λ (ws : List Word). IsParseFault ws number) back fault) (subst (λ (ws : List Word). IsParseFault ws is.number) back moved) in
     ap refusal.Parse (ap (token_place text tokens) number_is ∙ ap (λ (ts : List Token). token_place text ts is.number) (sym same) ∙ sym is.place_is)
 parse_agrees text tokens number reading spelled fault (refusal.Bind other) named is = absurd is
 parse_agrees text tokens number reading spelled fault (refusal.Flat other) named is = absurd is
@@ -154,13 +154,13 @@ pub record IsBoundTo (table : CellTable) (top : Option (List ℕ)) (text : List 
 
 -- any refusal of it is one of the flattening
 flat_alone : (table : CellTable) (top : Option (List ℕ)) (text : List ℕ) (tree : List Module) (bound : Bound) → IsBoundTo table top text tree bound → (Fact : Refusal → Type 0) →
-    ((fault : FlatFault) → fault ≢ flat_fault.Memory → flattening.IsRefused table bound fault → Fact (refusal.Flat fault)) → (other : Refusal) → other ≢ refusal.Memory → IsRefused table top text other → Fact other
+    ((fault : FlatFault) → fault ≢ flat_fault.Memory → flattening.IsFlatFault table bound fault → Fact (refusal.Flat fault)) → (other : Refusal) → other ≢ refusal.Memory → IsRefused table top text other → Fact other
 flat_alone table top text tree bound b Fact flat (refusal.Lex other) known is = absurd (no_tree text (refusal.Lex other) tree is known b.has)
 flat_alone table top text tree bound b Fact flat (refusal.Parse place) known is = absurd (no_tree text (refusal.Parse place) tree is known b.has)
 flat_alone table top text tree bound b Fact flat (refusal.Bind other) known is =
     absurd (no_first_fault (setting tree table top) other b.clean (subst (λ (t : List Module). IsFirstFault (setting t table top) other) (b.only is.tree is.has_tree) is.first))
 flat_alone table top text tree bound b Fact flat (refusal.Flat other) known is =
-    flat other is.named (subst (λ (form : Bound). flattening.IsRefused table form other) (same_bound table top text tree bound is.bound b.only b.one is.has_bound) is.refused)
+    flat other is.named (subst (λ (form : Bound). flattening.IsFlatFault table form other) (same_bound table top text tree bound is.bound b.only b.one is.has_bound) is.refused)
 flat_alone table top text tree bound b Fact flat refusal.Memory known is = absurd (known refl)
 
 named_flat : (fault : FlatFault) → flat_refusal fault ≢ refusal.Memory → flat_refusal fault ≡ refusal.Flat fault
@@ -168,7 +168,7 @@ named_flat flat_fault.Memory named = absurd (named refl)
 named_flat _ named = refl
 
 pub flat_agrees : (table : CellTable) (top : Option (List ℕ)) (text : List ℕ) (tree : List Module) (bound : Bound) (fault : FlatFault) (named_by : Refusal) → IsBoundTo table top text tree bound →
-    (fault ≢ flat_fault.Memory → (other : FlatFault) → other ≢ flat_fault.Memory → flattening.IsRefused table bound other → flattening.AgreeButRings fault other) → named_by ≡ flat_refusal fault → named_by ≢ refusal.Memory →
+    (fault ≢ flat_fault.Memory → (other : FlatFault) → other ≢ flat_fault.Memory → flattening.IsFlatFault table bound other → flattening.AgreeButRings fault other) → named_by ≡ flat_refusal fault → named_by ≢ refusal.Memory →
     (other : Refusal) → other ≢ refusal.Memory → IsRefused table top text other → AgreeButRings named_by other
 flat_agrees table top text tree bound fault named_by b agree by named =
     let is_named : named_by ≡ refusal.Flat fault = by ∙ named_flat fault (λ e. named (by ∙ e)) in
@@ -178,5 +178,5 @@ flat_agrees table top text tree bound fault named_by b agree by named =
     ])
 
 pub none_refused : (table : CellTable) (top : Option (List ℕ)) (text : List ℕ) (tree : List Module) (bound : Bound) → IsBoundTo table top text tree bound →
-    ((fault : FlatFault) → fault ≢ flat_fault.Memory → flattening.IsRefused table bound fault → ⊥) → (other : Refusal) → other ≢ refusal.Memory → IsRefused table top text other → ⊥
+    ((fault : FlatFault) → fault ≢ flat_fault.Memory → flattening.IsFlatFault table bound fault → ⊥) → (other : Refusal) → other ≢ refusal.Memory → IsRefused table top text other → ⊥
 none_refused table top text tree bound b none = flat_alone table top text tree bound b (λ other. ⊥) none

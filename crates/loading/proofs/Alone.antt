@@ -11,12 +11,12 @@ use Rattle.verilog_tree.specs.Words.{words}
 use Rattle.verilog_tree.specs.Trees.{Module}
 use Rattle.verilog_tree.specs.Spelling.{SpellsSource}
 use Rattle.verilog_tree.specs.Fault.{WordsSpellOneTree}
-use Rattle.bound_source.specs.declared.bound.Bound.{Bound}
-use Rattle.bound_source.specs.declared.fault.BindFault.{BindFault}
-use Rattle.bound_source.specs.declared.fault.BindFault.TheVariants as bind_fault
-use Rattle.bound_source.specs.Modules.{Setting, setting}
-use Rattle.bound_source.specs.Binds.{Binds}
-use Rattle.bound_source.specs.First.{StandsNowhere, HasNoFault, IsFirstFault}
+use Rattle.bind_forms.specs.declared.bound.Bound.{Bound}
+use Rattle.bind_forms.specs.declared.fault.BindFault.{BindFault}
+use Rattle.bind_forms.specs.declared.fault.BindFault.TheVariants as bind_fault
+use Rattle.bind_forms.specs.Modules.{Setting, setting}
+use Rattle.bind_forms.specs.Binds.{Binds}
+use Rattle.bind_forms.specs.First.{StandsNowhere, HasNoFault, IsFirstFault}
 use Rattle.flat_places.specs.Circuit.{IsCircuitOf}
 use Rattle.flattener.specs.declared.fault.FlatFault.{FlatFault}
 use Rattle.flattener.specs.declared.fault.FlatFault.TheVariants as flat_fault

@@ -8,13 +8,13 @@ use Rattle.verilog_lex.specs.Reads.{IsOnlyReading, IsOnlyFault}
 use Rattle.verilog_tree.specs.Words.{words}
 use Rattle.verilog_tree.specs.Trees.{Module}
 use Rattle.verilog_tree.specs.Spelling.{SpellsSource}
-use Rattle.verilog_tree.specs.Fault.{IsFault}
-use Rattle.bound_source.specs.declared.bound.Bound.{Bound}
-use Rattle.bound_source.specs.declared.fault.BindFault.{BindFault}
-use Rattle.bound_source.specs.declared.fault.BindFault.TheVariants as bind_fault
-use Rattle.bound_source.specs.Modules.{setting}
-use Rattle.bound_source.specs.Binds.{Binds}
-use Rattle.bound_source.specs.First.{HasNoFault, IsFirstFault}
+use Rattle.verilog_tree.specs.Fault.{IsParseFault}
+use Rattle.bind_forms.specs.declared.bound.Bound.{Bound}
+use Rattle.bind_forms.specs.declared.fault.BindFault.{BindFault}
+use Rattle.bind_forms.specs.declared.fault.BindFault.TheVariants as bind_fault
+use Rattle.bind_forms.specs.Modules.{setting}
+use Rattle.bind_forms.specs.Binds.{Binds}
+use Rattle.bind_forms.specs.First.{HasNoFault, IsFirstFault}
 use Rattle.flat_places.specs.Circuit.{IsCircuitOf}
 use Rattle.flattener.specs.declared.fault.FlatFault.{FlatFault}
 use Rattle.flattener.specs.declared.fault.FlatFault.TheVariants as flat_fault
@@ -51,7 +51,7 @@ pub record HasNoTree (text : List ℕ) (place : ℕ) : Type 0 where
   pub tokens : List Token
   pub reading : IsOnlyReading text tokens
   pub number : ℕ
-  pub fault : IsFault (words text tokens) number
+  pub fault : IsParseFault (words text tokens) number
   pub place_is : place ≡ token_place text tokens number
 
 -- Why a text has no tree, by the first two stages. Want of memory says nothing of the text.
@@ -72,7 +72,7 @@ pub record IsUnbound (table : CellTable) (top : Option (List ℕ)) (text : List 
 pub record HasNoCircuit (table : CellTable) (top : Option (List ℕ)) (text : List ℕ) (why : FlatFault) : Type 0 where
   pub bound : Bound
   pub has_bound : HasBound table top text bound
-  pub refused : flattening.IsRefused table bound why
+  pub refused : flattening.IsFlatFault table bound why
   pub named : why ≢ flat_fault.Memory
 
 -- Why a text has no circuit: the stage that refuses it first, with its fault. Want of memory says nothing of the text.

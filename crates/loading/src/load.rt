@@ -15,13 +15,14 @@ ghost use Rattle.loading.specs.declared.refusal.Refusal.TheVariants.{Memory};
 ghost use Rattle.loading.specs.Stages.{HasTree, HasNoTreeFor, HasCircuit, IsRefused, AgreeButRings, token_place};
 
 use crate::refusal::Refusal;
-use bound_laws::laws::fault_is_one;
+use bind_laws::laws::fault_is_one;
 use flattener::flatten;
 use rsfq_ids::circuit::Flat;
+use rsfq_ids::list::List;
 use rsfq_ids::table::CellTable;
 use std::alloc::Global;
 use verilog_bind::bind;
-use verilog_lex::{List, Token, lex, tokens_are_words};
+use verilog_lex::{Token, lex, tokens_are_words};
 use verilog_tree::{ParseFault, Source, parse, words_spell_one_tree};
 
 /// The place of a token in a text: its first byte, or the text's length where no token has the number.
@@ -71,7 +72,7 @@ fn read_tree(alloc: Global, text: &[u8]) -> Result<Source, Refusal>
 /// module instantiates. It is the only one.
 ///
 /// Takes time n log n in the text, and then what [`flatten`] says: 64 passes over the bound source, and steps for each wire bit, cell and bit
-/// that assigns or links join, of which some are taken once for each level. More than 2^26 joined bits are answered as `Memory`.
+/// that assigns or links join, of which some are taken once for each level.
 ///
 /// # Errors
 ///

@@ -3,8 +3,8 @@ use Rattle.std.specs.Prelude.{ℕ, List, [], ◌++◌, codes, decimal}
 use Rattle.std.specs.List.{flat_map}
 use Rattle.verilog_lex.specs.declared.token.LexWhy.{LexWhy}
 use Rattle.verilog_lex.specs.declared.token.LexWhy.TheVariants as why
-use Rattle.bound_source.specs.declared.fault.BindFault.{BindFault}
-use Rattle.bound_source.specs.declared.fault.BindFault.TheVariants as bind
+use Rattle.bind_forms.specs.declared.fault.BindFault.{BindFault}
+use Rattle.bind_forms.specs.declared.fault.BindFault.TheVariants as bind
 use Rattle.flattener.specs.declared.fault.FlatFault.{FlatFault}
 use Rattle.flattener.specs.declared.fault.FlatFault.TheVariants as flat
 use Rattle.loading.specs.declared.refusal.Refusal.{Refusal}

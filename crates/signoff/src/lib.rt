@@ -6,8 +6,6 @@
 
 mod run;
 mod steady;
-#[cfg(test)]
-mod tests;
 mod text;
 mod verdict;
 mod words;

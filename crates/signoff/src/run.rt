@@ -44,8 +44,8 @@ fn prepare<F: Folder>(alloc: Global, words: &[String], folder: &mut F) -> Result
 /// input. `Rejected` with the first pulse that may come in the zone around a strobe, `Words` with the usage line, or `Refused` where
 /// the netlist is longer than 16 MiB, has no circuit (with the first stage that refuses it: its lexemes, its grammar, its names and
 /// widths, its drivers, a limit), where its circuit is not of the form, or an output is deeper than 1,000,000. `Fault` where the
-/// folder fails at the read, with the line that says so, or where the sink fails. `Memory` where memory is wanting, or assigns and links
-/// join more than 2^26 bits, and then nothing was written.
+/// folder fails at the read, with the line that says so, or where the sink fails. `Memory` where memory is wanting, and then nothing
+/// was written.
 pub fn sign_off_run<F: Folder, S: Sink>(
     alloc: Global,
     words: &[String],
