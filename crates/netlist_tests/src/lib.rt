@@ -14,6 +14,10 @@ mod binding_sites;
 #[cfg(test)]
 mod flattening_aliases;
 #[cfg(test)]
+mod flattening_circuits;
+#[cfg(test)]
+mod flattening_sizes;
+#[cfg(test)]
 mod lexing;
 #[cfg(test)]
 mod printing;

@@ -34,7 +34,11 @@ fn add_clauses(
     for place in 0..pins {
         inputs.push(Lit::of(literals[place]))?;
     }
-    add_rows(alloc, rows, inputs.as_slice(), Lit::of(literals[4]), into)
+    let inputs = inputs.as_slice();
+    if inputs.is_empty() || inputs.len() > 4 {
+        return Ok(());
+    }
+    add_rows(alloc, rows, inputs, Lit::of(literals[4]), into)
 }
 
 fn text_of(rt: &HostRuntime, clauses: &[List<Lit>]) -> Result<String, Fail> {
