@@ -1,7 +1,11 @@
-//! What the solver answers on small formulas, and that its proofs are verified.
+//! What the solver and the tabulation answer on small formulas and circuits, and that their proofs are verified.
 #![tactic(auto)]
 
 #[cfg(test)]
 mod answers;
 #[cfg(test)]
+mod circuits;
+#[cfg(test)]
 mod formulas;
+#[cfg(test)]
+mod miter;

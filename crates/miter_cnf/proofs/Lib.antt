@@ -1,0 +1,16 @@
+pub mod Groups
+pub mod Named
+pub mod Differs
+pub mod Literals
+pub mod Along
+pub mod Equal
+pub mod Bits
+pub mod Equations
+pub mod Assigned
+pub mod Solutions
+pub mod Decided
+pub mod Settled
+pub mod Formed
+pub mod Bounded
+pub mod Launched
+pub mod Assembled
