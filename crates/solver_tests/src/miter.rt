@@ -2,6 +2,7 @@
 //! verified by the checker.
 ghost use Rattle.std.specs.Prelude.{IfOk};
 ghost use Rattle.rsfq_ids.specs.Formula.{IsFormula};
+ghost use Rattle.rsfq_ids.specs.WellFormed.{IsBench, IsFlat, IsTable};
 ghost use Rattle.lrat_check.specs.Written.{StandsFor};
 ghost use Rattle.solver_tests.specs.Tabulable.{IsTabulable};
 
@@ -22,16 +23,96 @@ use golden_aig::match_ports;
 use loading::load_circuit;
 use lrat_check::{check_text, write_lrat};
 use miter_cnf::{MiterCnf, launches, miter};
-use net_graph::build;
+use net_graph::{Graph, build};
 use proof_arena::{Answer, ProofLog};
-use rsfq_ids::circuit::Cnf;
+use rsfq_ids::circuit::{Bench, Cnf, Flat};
 use rsfq_ids::id::{Id, NetId, Var};
+use rsfq_ids::table::CellTable;
 use std::alloc::Global;
 use std::process::Abort;
 use std::test::Fail;
 
 /// A netlist and its environment.
 type Circuit = (&'static [u8], &'static [u8]);
+
+/// The circuit of a netlist.
+fn circuit_of(
+    rt: &impl Abort,
+    alloc: Global,
+    netlist: &[u8],
+    cells: &CellTable,
+) -> Result<Flat, Fail>
+    requires { IsTable cells.now }
+    ensures { IfOk result (IsFlat cells.now) }
+{
+    assert!(rt; netlist.len() < 10_000);
+    match load_circuit(alloc, netlist, cells, None) {
+        Ok(flat) => Ok(flat),
+        Err(_) => panic!(rt; "refused netlist"),
+    }
+}
+
+/// The bench of a circuit in an environment.
+fn bench_of(rt: &impl Abort, alloc: Global, env: &[u8], flat: &Flat) -> Result<Bench, Fail>
+    ensures { IfOk result (IsBench flat.now) }
+{
+    let Ok(lines) = read_env(alloc, env) else {
+        panic!(rt; "refused environment");
+    };
+    match bind_env(alloc, &lines, flat) {
+        Ok(bench) => Ok(bench),
+        Err(_) => panic!(rt; "refused binding"),
+    }
+}
+
+/// The miter of a circuit that has a graph, and a golden circuit.
+fn miter_on(
+    rt: &impl Abort,
+    alloc: Global,
+    graph: &Graph<'_>,
+    bench: &Bench,
+    golden: &[u8],
+) -> Result<MiterCnf, Fail>
+    requires bench { IsBench graph.now.flat bench.now }
+    ensures { IfOk result IsTabulable }
+{
+    graph.facts();
+    assert!(rt; golden.len() < 10_000);
+    let Ok(aig) = read_aiger(alloc, golden) else {
+        panic!(rt; "refused golden circuit");
+    };
+    let Ok(ports) = match_ports(alloc, &aig, graph.flat(), bench) else {
+        panic!(rt; "refused match");
+    };
+    let Ok(_clocked) = classify(alloc, graph, bench) else {
+        panic!(rt; "refused clock");
+    };
+    assert!(rt; graph.flat().ports.len() <= 2_000_000);
+    Ok(miter(alloc, graph, &aig, &ports)?)
+}
+
+/// The formula of a launch of two nets of a circuit that has a graph.
+fn launch_on(
+    rt: &impl Abort,
+    alloc: Global,
+    graph: &Graph<'_>,
+    bench: &Bench,
+    first: NetId,
+    second: NetId,
+) -> Result<MiterCnf, Fail>
+    requires { IsBench graph.now.flat bench.now }
+    ensures { IfOk result IsTabulable }
+{
+    let Ok(clocked) = classify(alloc, graph, bench) else {
+        panic!(rt; "refused clock");
+    };
+    assert!(rt; graph.flat().ports.len() <= 2_000_000);
+    assert!(rt; first.index() < graph.flat().nets.len());
+    assert!(rt; second.index() < graph.flat().nets.len());
+    assert!(rt; !clocked.is_clock(first));
+    assert!(rt; !clocked.is_clock(second));
+    Ok(launches(alloc, graph, bench, first, second)?)
+}
 
 /// The miter of a circuit and a golden circuit, given as the texts of their files.
 fn miter_of(
@@ -43,37 +124,18 @@ fn miter_of(
 ) -> Result<MiterCnf, Fail>
     ensures { IfOk result IsTabulable }
 {
-    assert!(rt; netlist.len() < 10_000);
-    assert!(rt; golden.len() < 10_000);
     let Ok(cells) = read_cells(alloc, CELLS) else {
         panic!(rt; "refused cell table");
     };
-    let Ok(flat) = load_circuit(alloc, netlist, &cells, None) else {
-        panic!(rt; "refused netlist");
-    };
-    let Ok(lines) = read_env(alloc, env) else {
-        panic!(rt; "refused environment");
-    };
-    let Ok(bench) = bind_env(alloc, &lines, &flat) else {
-        panic!(rt; "refused binding");
-    };
+    let flat = circuit_of(rt, alloc, netlist, &cells)?;
+    let bench = bench_of(rt, alloc, env, &flat)?;
     let Ok(graph) = build(alloc, &flat, &cells) else {
         panic!(rt; "refused graph");
     };
-    let Ok(_clocked) = classify(alloc, &graph, &bench) else {
-        panic!(rt; "refused clock");
-    };
-    let Ok(aig) = read_aiger(alloc, golden) else {
-        panic!(rt; "refused golden circuit");
-    };
-    let Ok(ports) = match_ports(alloc, &aig, &flat, &bench) else {
-        panic!(rt; "refused match");
-    };
-    assert!(rt; flat.ports.len() <= 2_000_000);
-    Ok(miter(alloc, &graph, &aig, &ports)?)
+    miter_on(rt, alloc, &graph, &bench, golden)
 }
 
-/// The formula of a launch of two nets of a circuit.
+/// The formula of a launch of two nets of a circuit, given as the texts of its files.
 fn launch_of(
     rt: &impl Abort,
     alloc: Global,
@@ -84,33 +146,22 @@ fn launch_of(
 ) -> Result<MiterCnf, Fail>
     ensures { IfOk result IsTabulable }
 {
-    assert!(rt; netlist.len() < 10_000);
     let Ok(cells) = read_cells(alloc, CELLS) else {
         panic!(rt; "refused cell table");
     };
-    let Ok(flat) = load_circuit(alloc, netlist, &cells, None) else {
-        panic!(rt; "refused netlist");
-    };
-    let Ok(lines) = read_env(alloc, env) else {
-        panic!(rt; "refused environment");
-    };
-    let Ok(bench) = bind_env(alloc, &lines, &flat) else {
-        panic!(rt; "refused binding");
-    };
+    let flat = circuit_of(rt, alloc, netlist, &cells)?;
+    let bench = bench_of(rt, alloc, env, &flat)?;
     let Ok(graph) = build(alloc, &flat, &cells) else {
         panic!(rt; "refused graph");
     };
-    let Ok(clocked) = classify(alloc, &graph, &bench) else {
-        panic!(rt; "refused clock");
-    };
-    let first = NetId::of(first);
-    let second = NetId::of(second);
-    assert!(rt; flat.ports.len() <= 2_000_000);
-    assert!(rt; first.index() < flat.nets.len());
-    assert!(rt; second.index() < flat.nets.len());
-    assert!(rt; !clocked.is_clock(first));
-    assert!(rt; !clocked.is_clock(second));
-    Ok(launches(alloc, &graph, &bench, first, second)?)
+    launch_on(
+        rt,
+        alloc,
+        &graph,
+        &bench,
+        NetId::of(first),
+        NetId::of(second),
+    )
 }
 
 /// The values of the inputs as digits.
